@@ -1,0 +1,12 @@
+-- The laws by topic.
+pub mod Bools
+pub mod Lists
+pub mod Groups
+pub mod Constraints
+pub mod Rows
+pub mod Parts
+pub mod Cluster
+pub mod Steps
+pub mod Written
+pub mod RoundTrip
+pub mod Walk

@@ -1,0 +1,198 @@
+-- The round trip: the record that steps are written as is whole, and stands for those steps.
+use Prim.Native.Nat.{ℕ, zero, suc, _+_, _-_, _*_, _/_, _%_, _≤_, _<_, _^_}
+use mathlib.Core.Bool.{Bool, true, false, _&&_}
+use mathlib.Core.List.{List, [], _∷_, _++_, append-assoc, append-nil}
+use mathlib.Core.Path.{_≡_, refl, sym, ap, _∙_}
+use native.Mathlib.Nat.{add-zero, add-assoc, div-div-eq-div-mul, div-add-mod', mod-eq-of-lt}
+use native.Mathlib.Omega.{arith}
+use lib.ListN.{length, getD, take, drop, length-append}
+use lib.Seq.{getD-drop, drop-drop, drop-at}
+use lib.Dec.{ltb, leb, eqb}
+use borrow.Author.Tests.{le-ltb, eq-eqb, leb-true}
+use Rattle.records.specs.Base.{pick, all, sumOf}
+use Rattle.records.specs.Bytes.{byteAt, be16, be24, be32, bytes16, bytes32}
+use Rattle.records.specs.Room.{rows}
+use Rattle.records.specs.Plan.{Move, Step, stepCount, moveCount, moveAt, stepAt, stepEnd, stepsFrom, stepsEnd, stepsOf, moveTotal, sized, shaped, planCheck, moveBytes, movesBytes, stepBytes, stepsBytes, headerBytes, planBytes}
+use Rattle.records.specs.declared.faults.PlanCheck.the-variants.{Whole}
+use Rattle.records.proofs.Laws.Bools.{and-left, and-right, all-head, all-tail}
+use Rattle.records.proofs.Laws.Steps.{total-cons}
+
+-- ---- numbers
+
+byte-back : (s l : List ℕ) (at i : ℕ) → drop at s ≡ l → byteAt s (at + i) ≡ byteAt l i
+byte-back s l at i e = sym (getD-drop at s i 0) ∙ ap (λ (x : List ℕ). byteAt x i) e
+
+byte-first : (s l : List ℕ) (at : ℕ) → drop at s ≡ l → byteAt s at ≡ byteAt l 0
+byte-first s l at e = ap (byteAt s) (sym (add-zero at)) ∙ byte-back s l at 0 e
+
+pub be16-back : (s rest : List ℕ) (at x : ℕ) → x < 65536 → drop at s ≡ bytes16 x ++ rest → be16 s at ≡ x
+unfolding be16 bytes16
+be16-back s rest at x h e =
+    let a : byteAt s at ≡ x / 256 % 256 = byte-first s (bytes16 x ++ rest) at e in
+    let b : byteAt s (at + 1) ≡ x % 256 = byte-back s (bytes16 x ++ rest) at 1 e in
+    omega arith
+
+digits : (x y z w d c b : ℕ) → y * 256 + d ≡ x → z * 256 + c ≡ y → w * 256 + b ≡ z → ((w * 256 + b) * 256 + c) * 256 + d ≡ x
+digits x y z w d c b e f g = omega arith
+
+pub be32-back : (s rest : List ℕ) (at x : ℕ) → x < 2 ^ 32 → drop at s ≡ bytes32 x ++ rest → be32 s at ≡ x
+unfolding be32 be24 be16 bytes32
+be32-back s rest at x h e =
+    let a : byteAt s at ≡ x / 16777216 % 256 = byte-first s (bytes32 x ++ rest) at e in
+    let b : byteAt s (at + 1) ≡ x / 65536 % 256 = byte-back s (bytes32 x ++ rest) at 1 e in
+    let c : byteAt s (at + 2) ≡ x / 256 % 256 = byte-back s (bytes32 x ++ rest) at 2 e in
+    let d : byteAt s (at + 3) ≡ x % 256 = byte-back s (bytes32 x ++ rest) at 3 e in
+    let p : x / 256 / 256 ≡ x / 65536 = div-div-eq-div-mul x 256 256 in
+    let q : x / 65536 / 256 ≡ x / 16777216 = div-div-eq-div-mul x 65536 256 in
+    let t : x / 16777216 < 256 = omega arith in
+    let u : byteAt s at ≡ x / 16777216 = a ∙ mod-eq-of-lt t in
+    rw (u, b, c, d)
+    (digits x (x / 256) (x / 65536) (x / 16777216) (x % 256) (x / 256 % 256) (x / 65536 % 256)
+    (div-add-mod' x 256) (rw p at (div-add-mod' (x / 256) 256)) (rw q at (div-add-mod' (x / 65536) 256)))
+
+-- ---- moves and steps
+
+moves-length : (moves : Step) → length (movesBytes moves) ≡ length moves * 2
+unfolding movesBytes moveBytes
+moves-length [] = refl
+moves-length (move ∷ moves) = let h = moves-length moves in omega arith
+
+steps-bytes-length : (steps : List Step) → length (stepsBytes steps) ≡ length steps * 2 + moveTotal steps * 2
+unfolding stepsBytes stepBytes bytes16 moveTotal sumOf
+steps-bytes-length [] = refl
+steps-bytes-length (step ∷ steps) =
+    let a = length-append (movesBytes step) (stepsBytes steps) in
+    let b = moves-length step in
+    let c : length (stepsBytes steps) ≡ length steps * 2 + sumOf length steps * 2 = steps-bytes-length steps in
+    omega arith
+
+-- what stands behind the first bytes
+drop-back : (s front rest : List ℕ) (at : ℕ) → drop at s ≡ front ++ rest → drop (at + length front) s ≡ rest
+drop-back s front rest at e = sym (drop-drop (length front) at s) ∙ ap (drop (length front)) e ∙ drop-at front rest (length front) refl
+
+move-back : (s rest : List ℕ) (at : ℕ) (move : Move) → drop at s ≡ moveBytes move ++ rest → moveAt s at ≡ move
+unfolding moveAt moveBytes
+move-back s rest at move e i =
+    record { vm = byte-first s (moveBytes move ++ rest) at e i; to = byte-back s (moveBytes move ++ rest) at 1 e i }
+
+move-behind : (s rest : List ℕ) (at : ℕ) (move : Move) → drop at s ≡ moveBytes move ++ rest → drop (at + 2) s ≡ rest
+unfolding moveBytes
+move-behind s rest at move e = drop-back s (moveBytes move) rest at e
+
+moves-back : (s rest : List ℕ) (at : ℕ) (moves : Step) → drop at s ≡ movesBytes moves ++ rest → rows (moveAt s) 2 at (length moves) ≡ moves
+unfolding rows movesBytes
+moves-back s rest at [] e = refl
+moves-back s rest at (move ∷ moves) e =
+    let f : drop at s ≡ moveBytes move ++ (movesBytes moves ++ rest) = e ∙ append-assoc (moveBytes move) (movesBytes moves) rest in
+    rw (move-back s (movesBytes moves ++ rest) at move f, moves-back s rest (at + 2) moves (move-behind s (movesBytes moves ++ rest) at move f))
+
+-- the bytes of a step
+module _ (s rest : List ℕ) (at : ℕ) (step : Step) (z : sized step ≡ true) (e : drop at s ≡ stepBytes step ++ rest) where
+  most : length step < 65536
+  unfolding sized
+  most = let h = leb-true (length step) 256 (and-right (leb 1 (length step)) (leb (length step) 256) z) in omega arith
+
+  counted : drop at s ≡ bytes16 (length step) ++ (movesBytes step ++ rest)
+  unfolding stepBytes
+  counted = e ∙ append-assoc (bytes16 (length step)) (movesBytes step) rest
+
+  count-back : moveCount s at ≡ length step
+  count-back = be16-back s (movesBytes step ++ rest) at (length step) most counted
+
+  moves-from : drop (at + 2) s ≡ movesBytes step ++ rest
+  unfolding bytes16
+  moves-from = drop-back s (bytes16 (length step)) (movesBytes step ++ rest) at counted
+
+  step-back : stepAt s at ≡ step
+  unfolding stepAt
+  step-back = ap (rows (moveAt s) 2 (at + 2)) count-back ∙ moves-back s rest (at + 2) step moves-from
+
+  end-back : stepEnd s at ≡ at + length (stepBytes step)
+  unfolding stepBytes bytes16
+  end-back = let a = count-back in let b = moves-length step in omega arith
+
+  rest-back : drop (stepEnd s at) s ≡ rest
+  rest-back = ap (λ (k : ℕ). drop k s) end-back ∙ drop-back s (stepBytes step) rest at e
+
+steps-back : (s rest : List ℕ) (at : ℕ) (steps : List Step) → all sized steps ≡ true → drop at s ≡ stepsBytes steps ++ rest →
+    (stepsFrom s at (length steps) ≡ steps) × (stepsEnd s at (length steps) ≡ at + length (stepsBytes steps))
+unfolding stepsFrom stepsEnd stepsBytes
+steps-back s rest at [] z e = (refl, omega arith)
+steps-back s rest at (step ∷ steps) z e =
+    let f : drop at s ≡ stepBytes step ++ (stepsBytes steps ++ rest) = e ∙ append-assoc (stepBytes step) (stepsBytes steps) rest in
+    let h = all-head sized step steps z in
+    let g = steps-back s rest (stepEnd s at) steps (all-tail sized step steps z) (rest-back s (stepsBytes steps ++ rest) at step h f) in
+    let a = end-back s (stepsBytes steps ++ rest) at step h f in
+    let b = length-append (stepBytes step) (stepsBytes steps) in
+    (rw (step-back s (stepsBytes steps ++ rest) at step h f, g .0), g .1 ∙ omega arith)
+
+-- ---- the record
+
+pub plan-length : (steps : List Step) → length (planBytes steps) ≡ 7 + length steps * 2 + moveTotal steps * 2
+unfolding planBytes headerBytes bytes32 bytes16
+plan-length steps = let a = steps-bytes-length steps in omega arith
+
+module _ (steps : List Step) (z : shaped steps ≡ true) where
+  count-most : length steps ≤ 512
+  unfolding shaped
+  count-most = leb-true (length steps) 512 (and-left (leb (length steps) 512) _ z)
+
+  each-sized : all sized steps ≡ true
+  unfolding shaped
+  each-sized = and-left (all sized steps) _ (and-right (leb (length steps) 512) _ z)
+
+  total-most : moveTotal steps ≤ 1024
+  unfolding shaped
+  total-most = leb-true (moveTotal steps) 1024 (and-right (all sized steps) (leb (moveTotal steps) 1024) (and-right (leb (length steps) 512) _ z))
+
+  pub plan-size : length (planBytes steps) ≤ 3079
+  plan-size = let a = plan-length steps in let b = count-most in let c = total-most in omega arith
+
+  count-is : stepCount (planBytes steps) ≡ length steps
+  unfolding planBytes headerBytes bytes32
+  count-is = let b = count-most in be16-back (planBytes steps) (stepsBytes steps) 5 (length steps) (omega arith) refl
+
+  body-is : drop 7 (planBytes steps) ≡ stepsBytes steps ++ []
+  unfolding planBytes headerBytes bytes32 bytes16
+  body-is = sym (append-nil (stepsBytes steps))
+
+  back : (stepsFrom (planBytes steps) 7 (length steps) ≡ steps) × (stepsEnd (planBytes steps) 7 (length steps) ≡ 7 + length (stepsBytes steps))
+  back = steps-back (planBytes steps) [] 7 steps each-sized body-is
+
+  pub steps-of-plan : stepsOf (planBytes steps) ≡ steps
+  unfolding stepsOf
+  steps-of-plan = ap (stepsFrom (planBytes steps) 7) count-is ∙ back .0
+
+  size-is : length (planBytes steps) ≡ 7 + length (stepsBytes steps)
+  unfolding planBytes headerBytes bytes32 bytes16
+  size-is = omega arith
+
+  end-is : stepsEnd (planBytes steps) 7 (stepCount (planBytes steps)) ≡ length (planBytes steps)
+  end-is = ap (stepsEnd (planBytes steps) 7) count-is ∙ back .1 ∙ sym size-is
+
+  version-is : byteAt (planBytes steps) 0 ≡ 1
+  unfolding planBytes headerBytes
+  version-is = refl
+
+  stated-is : be32 (planBytes steps) 1 ≡ length (planBytes steps)
+  unfolding planBytes headerBytes
+  stated-is =
+      let a = size-is in let b = plan-size in
+      be32-back (planBytes steps) (bytes16 (length steps) ++ stepsBytes steps) 1 (7 + length (stepsBytes steps)) (omega arith) split ∙ sym size-is
+    where
+      split : drop 1 (planBytes steps) ≡ bytes32 (7 + length (stepsBytes steps)) ++ (bytes16 (length steps) ++ stepsBytes steps)
+      split = append-assoc (bytes32 (7 + length (stepsBytes steps))) (bytes16 (length steps)) (stepsBytes steps)
+
+  pub plan-whole : planCheck (planBytes steps) ≡ Whole
+  unfolding planCheck
+  plan-whole =
+      let a = size-is in
+      let long : 7 ≤ length (planBytes steps) = omega arith in
+      simp (
+        le-ltb (length (planBytes steps)) 7 long,
+        eq-eqb (byteAt (planBytes steps) 0) 1 version-is,
+        eq-eqb (be32 (planBytes steps) 1) (length (planBytes steps)) stated-is,
+        steps-of-plan,
+        z,
+        eq-eqb (stepsEnd (planBytes steps) 7 (stepCount (planBytes steps))) (length (planBytes steps)) end-is,
+      )

@@ -1,0 +1,23 @@
+use Rattle.records.proofs.Laws.Constraints.{others-within}
+use native.Mathlib.Omega.{arith}
+use borrow.Author.Needs.{needs}
+use Rattle.records.proofs.constraints.others_at.Statement.{statement}
+use Rattle.records.proofs.constraints.others_at.Tie as tie
+use Rattle.records.proofs.constraints.others_at.Reads as reads
+use Rattle.records.proofs.constraints.others_at.Lts as lts
+use Rattle.records.proofs.bytes.count16.Reads as count16-reads
+
+-- src/constraints.rt:114:9
+count16-requires : tie.Need-count16-requires
+count16-requires c κs = omega (arith, others-within)
+
+-- src/constraints.rt:114:5
+add-result : tie.Need-add-result
+add-result c = search needs
+
+-- src/constraints.rt:110:1
+returns : tie.Need-returns
+returns c = omega (arith, others-within)
+
+pub others-at-spec : {M : Type 1} → statement M
+others-at-spec = tie.close (tie.spec count16-requires add-result returns)

@@ -1,0 +1,19 @@
+use borrow.Author.Needs.{needs}
+use Rattle.records.proofs.Laws.Steps.{plan-long, steps-most}
+use native.Mathlib.Omega.{arith}
+use Rattle.records.proofs.plan.step_count.Statement.{statement}
+use Rattle.records.proofs.plan.step_count.Tie as tie
+use Rattle.records.proofs.plan.step_count.Reads as reads
+use Rattle.records.proofs.plan.step_count.Lts as lts
+use Rattle.records.proofs.bytes.count16.Reads as count16-reads
+
+-- src/plan.rt:92:5
+count16-requires : tie.Need-count16-requires
+count16-requires c κs = omega (arith, plan-long)
+
+-- src/plan.rt:88:1
+returns : tie.Need-returns
+returns c = omega (arith, steps-most)
+
+pub step-count-spec : {M : Type 1} → statement M
+step-count-spec = tie.close (tie.spec count16-requires returns)

@@ -1,0 +1,18 @@
+use Rattle.records.proofs.Laws.Cluster.{whole-long}
+use borrow.Author.Needs.{needs}
+use Rattle.records.proofs.room.first_constraint.Statement.{statement}
+use Rattle.records.proofs.room.first_constraint.Tie as tie
+use Rattle.records.proofs.room.first_constraint.Reads as reads
+use Rattle.records.proofs.room.first_constraint.Lts as lts
+use Rattle.records.proofs.cluster.constraints_start.Reads as constraints-start-reads
+
+-- src/room.rt:42:5
+constraints-start-requires : tie.Need-constraints-start-requires
+constraints-start-requires c κs = search (needs, whole-long)
+
+-- src/room.rt:38:1
+returns : tie.Need-returns
+returns c = search needs
+
+pub first-constraint-spec : {M : Type 1} → statement M
+first-constraint-spec = tie.close (tie.spec constraints-start-requires returns)

@@ -1,0 +1,23 @@
+use Rattle.records.proofs.Laws.Cluster.{node-memory-is}
+use borrow.Author.Needs.{needs}
+use Rattle.records.proofs.room.node_memory.Statement.{statement}
+use Rattle.records.proofs.room.node_memory.Tie as tie
+use Rattle.records.proofs.room.node_memory.Reads as reads
+use Rattle.records.proofs.room.node_memory.Lts as lts
+use Rattle.records.proofs.bytes.be24.Reads as be24-reads
+use Rattle.records.proofs.room.node_row.Reads as node-row-reads
+
+-- src/room.rt:65:13
+node-row-requires : tie.Need-node-row-requires
+node-row-requires c κs = search needs
+
+-- src/room.rt:65:5
+be24-requires : tie.Need-be24-requires
+be24-requires c κs = search needs
+
+-- src/room.rt:61:1
+returns : tie.Need-returns
+returns c = search (needs, node-memory-is)
+
+pub node-memory-spec : {M : Type 1} → statement M
+node-memory-spec = tie.close (tie.spec node-row-requires be24-requires returns)

@@ -1,0 +1,34 @@
+use Rattle.records.proofs.Laws.Written.{header-written}
+use native.Mathlib.Omega.{arith}
+use lib.ListN.{length-set}
+use borrow.Author.Needs.{needs}
+use Rattle.records.proofs.write.finish_plan.Statement.{statement}
+use Rattle.records.proofs.write.finish_plan.Tie as tie
+use Rattle.records.proofs.write.finish_plan.Reads as reads
+use Rattle.records.proofs.write.finish_plan.Lts as lts
+use Rattle.records.proofs.write.put16.Reads as put16-reads
+use Rattle.records.proofs.write.put32.Reads as put32-reads
+
+-- src/write.rt:52:5
+put16-requires : tie.Need-put16-requires
+put16-requires c κs = search needs
+
+-- src/write.rt:53:5
+put32-requires : tie.Need-put32-requires
+put32-requires c κs = search needs
+
+-- src/write.rt:54:5
+slice-write-out : tie.Need-slice-write-out
+slice-write-out c = search needs
+
+-- src/write.rt:48:1
+same-length : tie.Need-same-length
+same-length c = simp length-set (omega arith)
+
+-- src/write.rt:48:1
+returns : tie.Need-returns
+returns c = search (needs, header-written)
+
+pub finish-plan-spec : {M : Type 1} → statement M
+finish-plan-spec =
+    tie.close (tie.spec put16-requires put32-requires slice-write-out same-length returns)

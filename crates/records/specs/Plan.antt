@@ -1,0 +1,131 @@
+-- The plan record (01, "The two records" and refusals 11 to 14): the steps that bytes stand for, what makes them damaged, and the
+-- record that steps are written as.
+use Prim.Native.Nat.{ℕ, zero, suc, _+_, _*_}
+use mathlib.Core.Bool.{Bool, true, false, not, _&&_}
+use mathlib.Core.List.{List, [], _∷_, _++_}
+use mathlib.Core.Path.{_≡_}
+use lib.ListN.{length, getD, take, drop}
+use lib.Dec.{ltb, leb, eqb}
+use Rattle.records.specs.Base.{pick, all, sumOf}
+use Rattle.records.specs.Bytes.{byteAt, be16, be32, bytes16, bytes32, AreBytes}
+use Rattle.records.specs.Room.{rows}
+use Rattle.records.specs.declared.faults.PlanFault.{PlanFault}
+use Rattle.records.specs.declared.faults.PlanFault.the-variants.{TooShort, Version, Length, Shape}
+use Rattle.records.specs.declared.faults.PlanCheck.{PlanCheck}
+use Rattle.records.specs.declared.faults.PlanCheck.the-variants.{Whole, Damaged}
+
+-- ---- what a record stands for
+
+-- a move: a VM and the node it goes to
+pub record Move : Type 0 where
+  pub vm : ℕ
+  pub to : ℕ
+
+-- a step: the moves that run side by side
+abbrev pub Step : Type 0
+Step = List Move
+
+-- move i of a step; nothing where there is none
+abbrev pub noMove : Move
+noMove = record { vm = 0; to = 0 }
+
+unfoldable pub moveOf : Step → ℕ → Move
+moveOf step i = getD step i noMove
+
+-- ---- reading
+
+abbrev pub stepCount : List ℕ → ℕ
+stepCount s = be16 s 5
+
+-- a move is two bytes
+unfoldable pub moveAt : List ℕ → ℕ → Move
+moveAt s at = record { vm = byteAt s at; to = byteAt s (at + 1) }
+
+-- a step is a count of two bytes and its moves; it ends where the last move does
+abbrev pub moveCount : List ℕ → ℕ → ℕ
+moveCount s at = be16 s at
+
+unfoldable pub stepAt : List ℕ → ℕ → Step
+stepAt s at = rows (moveAt s) 2 (at + 2) (moveCount s at)
+
+abbrev pub stepEnd : List ℕ → ℕ → ℕ
+stepEnd s at = at + 2 + moveCount s at * 2
+
+-- so many steps from a place, and where the last one ends
+unfoldable pub stepsFrom : List ℕ → ℕ → ℕ → List Step
+stepsFrom s at zero = []
+stepsFrom s at (suc n) = stepAt s at ∷ stepsFrom s (stepEnd s at) n
+
+unfoldable pub stepsEnd : List ℕ → ℕ → ℕ → ℕ
+stepsEnd s at zero = at
+stepsEnd s at (suc n) = stepsEnd s (stepEnd s at) n
+
+-- the steps that a record stands for: the first starts behind the header
+unfoldable pub stepsOf : List ℕ → List Step
+stepsOf s = stepsFrom s 7 (stepCount s)
+
+-- ---- what makes a record damaged
+
+-- how many moves the steps have in all
+unfoldable pub moveTotal : List Step → ℕ
+moveTotal steps = sumOf length steps
+
+-- 14: counts in their ranges
+unfoldable pub sized : Step → Bool
+sized step = leb 1 (length step) && leb (length step) 256
+
+unfoldable pub shaped : List Step → Bool
+shaped steps = leb (length steps) 512 && (all sized steps && leb (moveTotal steps) 1024)
+
+-- the first fault in checking order, 11 to 14
+abbrev pub refuse : Bool → PlanFault → PlanCheck → PlanCheck
+refuse test fault rest = pick test (Damaged fault) rest
+
+unfoldable pub planCheck : List ℕ → PlanCheck
+planCheck s =
+    refuse (ltb (length s) 7) TooShort
+    (refuse (not (eqb (byteAt s 0) 1)) Version
+    (refuse (not (eqb (be32 s 1) (length s))) Length
+    (refuse (not (shaped (stepsOf s) && eqb (stepsEnd s 7 (stepCount s)) (length s))) Shape
+    Whole)))
+
+-- what reading a plan record answers: that fault, and for those who compute with the record that its elements are bytes
+pub record Checked (s : List ℕ) (r : PlanCheck) : Type 0 where
+  pub is : r ≡ planCheck s
+  pub bytes : AreBytes s
+
+-- 01's number of each
+abbrev pub planNumber : PlanFault → ℕ
+planNumber TooShort = 11
+planNumber Version = 12
+planNumber Length = 13
+planNumber Shape = 14
+
+-- ---- writing
+
+-- the bytes of a move, of a step's moves, of a step, of steps one behind the other
+unfoldable pub moveBytes : Move → List ℕ
+moveBytes move = move .vm ∷ move .to ∷ []
+
+unfoldable pub movesBytes : Step → List ℕ
+movesBytes [] = []
+movesBytes (move ∷ moves) = moveBytes move ++ movesBytes moves
+
+unfoldable pub stepBytes : Step → List ℕ
+stepBytes step = bytes16 (length step) ++ movesBytes step
+
+unfoldable pub stepsBytes : List Step → List ℕ
+stepsBytes [] = []
+stepsBytes (step ∷ steps) = stepBytes step ++ stepsBytes steps
+
+-- the header of a record of so many bytes and steps
+unfoldable pub headerBytes : ℕ → ℕ → List ℕ
+headerBytes size steps = 1 ∷ bytes32 size ++ bytes16 steps
+
+-- the record of steps
+unfoldable pub planBytes : List Step → List ℕ
+planBytes steps = headerBytes (7 + length (stepsBytes steps)) (length steps) ++ stepsBytes steps
+
+-- a buffer with bytes put at a place: all else stays
+unfoldable pub written : List ℕ → ℕ → List ℕ → List ℕ
+written buffer at bytes = take at buffer ++ (bytes ++ drop (at + length bytes) buffer)

@@ -1,0 +1,264 @@
+-- The cluster record (01, "The two records" and refusals 1 to 7): the room that bytes stand for, and what makes them damaged.
+use Prim.Native.Nat.{ℕ, zero, suc, _+_, _*_}
+use mathlib.Core.Bool.{Bool, true, false, not, _&&_, _||_}
+use mathlib.Core.List.{List, [], _∷_, map}
+use mathlib.Core.Path.{_≡_}
+use lib.ListN.{length, getD, take, drop}
+use lib.Dec.{ltb, leb, eqb}
+use Rattle.records.specs.Base.{pick, all}
+use Rattle.records.specs.Bytes.{byteAt, be16, be24, be32, AreBytes}
+use Rattle.records.specs.declared.faults.ClusterFault.{ClusterFault}
+use Rattle.records.specs.declared.faults.ClusterFault.the-variants.{TooShort, Version, Length, Counts, Fill, VmRow, Constraint as BadConstraint}
+use Rattle.records.specs.declared.faults.ClusterCheck.{ClusterCheck}
+use Rattle.records.specs.declared.faults.ClusterCheck.the-variants.{Whole, Damaged}
+use Rattle.records.specs.declared.constraints.Kind.{Kind}
+use Rattle.records.specs.declared.constraints.Kind.the-variants.{Ban, Fence, Spread, Latency}
+
+-- ---- what a record stands for
+
+-- a node: how much memory and CPU it has
+pub record Node : Type 0 where
+  pub memory : ℕ
+  pub cpu : ℕ
+
+-- a VM: what it needs, the node it is on and the node it is wanted on
+pub record Vm : Type 0 where
+  pub memory : ℕ
+  pub cpu : ℕ
+  pub current : ℕ
+  pub target : ℕ
+
+-- the four kinds of constraint, with the VMs they bind and the nodes, or groups of nodes, they name
+pub data Constraint : Type 0 where
+  ban : List ℕ → List ℕ → Constraint
+  fence : List ℕ → List ℕ → Constraint
+  spread : List ℕ → Constraint
+  latency : List ℕ → List (List ℕ) → Constraint
+
+pub record Room : Type 0 where
+  pub nodes : List Node
+  pub vms : List Vm
+  pub constraints : List Constraint
+
+-- node d and VM v of a room; nothing where there is none
+abbrev pub noNode : Node
+noNode = record { memory = 0; cpu = 0 }
+
+abbrev pub noVm : Vm
+noVm = record { memory = 0; cpu = 0; current = 0; target = 0 }
+
+unfoldable pub nodeOf : Room → ℕ → Node
+nodeOf room d = getD (room .nodes) d noNode
+
+unfoldable pub vmOf : Room → ℕ → Vm
+vmOf room v = getD (room .vms) v noVm
+
+-- a constraint's kind, VMs, nodes and groups
+unfoldable pub kindOf : Constraint → Kind
+kindOf (ban vms nodes) = Ban
+kindOf (fence vms nodes) = Fence
+kindOf (spread vms) = Spread
+kindOf (latency vms groups) = Latency
+
+unfoldable pub vmsOf : Constraint → List ℕ
+vmsOf (ban vms nodes) = vms
+vmsOf (fence vms nodes) = vms
+vmsOf (spread vms) = vms
+vmsOf (latency vms groups) = vms
+
+unfoldable pub nodesOf : Constraint → List ℕ
+nodesOf (ban vms nodes) = nodes
+nodesOf (fence vms nodes) = nodes
+nodesOf (spread vms) = []
+nodesOf (latency vms groups) = []
+
+unfoldable pub groupsOf : Constraint → List (List ℕ)
+groupsOf (ban vms nodes) = []
+groupsOf (fence vms nodes) = []
+groupsOf (spread vms) = []
+groupsOf (latency vms groups) = groups
+
+-- ---- reading the header and the rows
+
+-- rows of one width: what is read at a place, and at each place a width further
+unfoldable pub rows : {A : Type 0} → (ℕ → A) → ℕ → ℕ → ℕ → List A
+rows read width at zero = []
+rows read width at (suc n) = read at ∷ rows read width (at + width) n
+
+-- N, V and C
+abbrev pub nodeCount : List ℕ → ℕ
+nodeCount s = be16 s 5
+
+abbrev pub vmCount : List ℕ → ℕ
+vmCount s = be16 s 7
+
+abbrev pub constraintCount : List ℕ → ℕ
+constraintCount s = be16 s 9
+
+-- the row of a node, five bytes, and of a VM, seven
+unfoldable pub nodeRow : List ℕ → ℕ → Node
+nodeRow s at = record { memory = be24 s at; cpu = be16 s (at + 3) }
+
+unfoldable pub vmRow : List ℕ → ℕ → Vm
+vmRow s at = record { memory = be24 s at; cpu = be16 s (at + 3); current = byteAt s (at + 5); target = byteAt s (at + 6) }
+
+-- where the VM rows and the constraints start
+abbrev pub vmsStart : List ℕ → ℕ
+vmsStart s = 11 + nodeCount s * 5
+
+abbrev pub constraintsStart : List ℕ → ℕ
+constraintsStart s = vmsStart s + vmCount s * 7
+
+-- ---- reading the constraints
+
+-- a constraint stands from its length field to its stated end
+abbrev pub partEnd : List ℕ → ℕ → ℕ
+partEnd s at = at + 2 + be16 s at
+
+unfoldable pub partAt : List ℕ → ℕ → List ℕ
+partAt s at = take (2 + be16 s at) (drop at s)
+
+-- the parts of so many constraints from a place, and where the last one ends
+unfoldable pub partsFrom : List ℕ → ℕ → ℕ → List (List ℕ)
+partsFrom s at zero = []
+partsFrom s at (suc n) = partAt s at ∷ partsFrom s (partEnd s at) n
+
+unfoldable pub partsEnd : List ℕ → ℕ → ℕ → ℕ
+partsEnd s at zero = at
+partsEnd s at (suc n) = partsEnd s (partEnd s at) n
+
+unfoldable pub partsOf : List ℕ → List (List ℕ)
+partsOf s = partsFrom s (constraintsStart s) (constraintCount s)
+
+-- in a part: a VM list is a count of two bytes and the VMs, a node list a count of one byte and the nodes
+unfoldable pub vmsAt : List ℕ → ℕ → List ℕ
+vmsAt p at = take (be16 p at) (drop (at + 2) p)
+
+abbrev pub vmsEnd : List ℕ → ℕ → ℕ
+vmsEnd p at = at + 2 + be16 p at
+
+unfoldable pub nodesAt : List ℕ → ℕ → List ℕ
+nodesAt p at = take (byteAt p at) (drop (at + 1) p)
+
+abbrev pub nodesEnd : List ℕ → ℕ → ℕ
+nodesEnd p at = at + 1 + byteAt p at
+
+-- so many node lists one behind the other, and where the last one ends
+unfoldable pub groupsFrom : List ℕ → ℕ → ℕ → List (List ℕ)
+groupsFrom p at zero = []
+groupsFrom p at (suc n) = nodesAt p at ∷ groupsFrom p (nodesEnd p at) n
+
+unfoldable pub groupsEnd : List ℕ → ℕ → ℕ → ℕ
+groupsEnd p at zero = at
+groupsEnd p at (suc n) = groupsEnd p (nodesEnd p at) n
+
+-- a part's kind byte stands behind the length, its VM list behind that, and its other lists behind the VM list
+abbrev pub kindAt : List ℕ → ℕ
+kindAt p = byteAt p 2
+
+abbrev pub othersAt : List ℕ → ℕ
+othersAt p = vmsEnd p 3
+
+-- the constraint that a part stands for: kind 1 ban, 2 fence, 3 spread, else 4 latency
+unfoldable pub constraintOf : List ℕ → Constraint
+constraintOf p =
+    pick (eqb (kindAt p) 1) (ban (vmsAt p 3) (nodesAt p (othersAt p)))
+    (pick (eqb (kindAt p) 2) (fence (vmsAt p 3) (nodesAt p (othersAt p)))
+    (pick (eqb (kindAt p) 3) (spread (vmsAt p 3))
+    (latency (vmsAt p 3) (groupsFrom p (othersAt p + 1) (byteAt p (othersAt p))))))
+
+-- where its lists end
+unfoldable pub listsEnd : List ℕ → ℕ
+listsEnd p =
+    pick (eqb (kindAt p) 3) (othersAt p)
+    (pick (eqb (kindAt p) 4) (groupsEnd p (othersAt p + 1) (byteAt p (othersAt p)))
+    (nodesEnd p (othersAt p)))
+
+-- the room that a record stands for
+unfoldable pub roomOf : List ℕ → Room
+roomOf s =
+    record {
+      nodes = rows (nodeRow s) 5 11 (nodeCount s);
+      vms = rows (vmRow s) 7 (vmsStart s) (vmCount s);
+      constraints = map constraintOf (partsOf s);
+    }
+
+-- ---- what makes a record damaged
+
+-- 4: each count in its range
+unfoldable pub countsOk : List ℕ → Bool
+countsOk s = leb 1 (nodeCount s) && (leb (nodeCount s) 64 && (leb (vmCount s) 256 && leb (constraintCount s) 128))
+
+-- 6: a VM row has memory, and names two nodes of the n there are
+unfoldable pub vmOk : ℕ → Vm → Bool
+vmOk n vm = leb 1 (vm .memory) && (ltb (vm .current) n && ltb (vm .target) n)
+
+-- 7: a list rises strictly: each element stands above the one before it
+unfoldable pub above : ℕ → List ℕ → Bool
+above low [] = true
+above low (x ∷ xs) = ltb low x && above x xs
+
+unfoldable pub rises : List ℕ → Bool
+rises [] = true
+rises (x ∷ xs) = above x xs
+
+-- and each element is below the count of what it names
+unfoldable pub listOk : ℕ → List ℕ → Bool
+listOk limit xs = rises xs && all (λ x. ltb x limit) xs
+
+-- x is in the list
+unfoldable pub has : List ℕ → ℕ → Bool
+has [] x = false
+has (y ∷ ys) x = eqb y x || has ys x
+
+-- two lists share no element; no two of the lists share one
+unfoldable pub disjoint : List ℕ → List ℕ → Bool
+disjoint xs ys = all (λ x. not (has ys x)) xs
+
+unfoldable pub apart : List (List ℕ) → Bool
+apart [] = true
+apart (g ∷ gs) = all (λ h. disjoint h g) gs && apart gs
+
+-- order, count and range of a constraint's lists, among v VMs and n nodes
+unfoldable pub constraintOk : ℕ → ℕ → Constraint → Bool
+constraintOk v n (ban vms nodes) = listOk v vms && listOk n nodes
+constraintOk v n (fence vms nodes) = listOk v vms && listOk n nodes
+constraintOk v n (spread vms) = listOk v vms
+constraintOk v n (latency vms groups) = listOk v vms && (leb (length groups) 64 && (all (listOk n) groups && apart groups))
+
+-- a part has a kind, a known one, and lists that fill it
+unfoldable pub filled : List ℕ → Bool
+filled p = leb 1 (kindAt p) && (leb (kindAt p) 4 && eqb (listsEnd p) (length p))
+
+unfoldable pub wellFormed : ℕ → ℕ → List ℕ → Bool
+wellFormed v n p = filled p && constraintOk v n (constraintOf p)
+
+-- the first fault in checking order, 1 to 7
+abbrev pub refuse : Bool → ClusterFault → ClusterCheck → ClusterCheck
+refuse test fault rest = pick test (Damaged fault) rest
+
+unfoldable pub clusterCheck : List ℕ → ClusterCheck
+clusterCheck s =
+    refuse (ltb (length s) 11) TooShort
+    (refuse (not (eqb (byteAt s 0) 1)) Version
+    (refuse (not (eqb (be32 s 1) (length s)) || ltb 65535 (length s)) Length
+    (refuse (not (countsOk s)) Counts
+    (refuse (not (eqb (partsEnd s (constraintsStart s) (constraintCount s)) (length s))) Fill
+    (refuse (not (all (vmOk (nodeCount s)) (roomOf s .vms))) VmRow
+    (refuse (not (all (wellFormed (vmCount s) (nodeCount s)) (partsOf s))) BadConstraint
+    Whole))))))
+
+-- what reading a cluster record answers: that fault, and for those who compute with the record that its elements are bytes
+pub record Checked (s : List ℕ) (r : ClusterCheck) : Type 0 where
+  pub is : r ≡ clusterCheck s
+  pub bytes : AreBytes s
+
+-- 01's number of each
+abbrev pub clusterNumber : ClusterFault → ℕ
+clusterNumber TooShort = 1
+clusterNumber Version = 2
+clusterNumber Length = 3
+clusterNumber Counts = 4
+clusterNumber Fill = 5
+clusterNumber VmRow = 6
+clusterNumber BadConstraint = 7

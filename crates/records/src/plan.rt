@@ -1,0 +1,125 @@
+// A plan record: whether it is whole, refusals 11 to 14, and its steps and moves, read in place.
+use crate::bytes::be32;
+use crate::bytes::byte;
+use crate::bytes::count16;
+use crate::faults::PlanCheck;
+use crate::faults::PlanFault;
+ghost use mathlib.Core.Path.{_≡_};
+ghost use mathlib.Core.Bool.{_&&_};
+ghost use Prim.Native.Nat.{_+_, _≤_, _<_, _^_};
+ghost use lib.ListN.{length};
+ghost use lib.Dec.{eqb};
+ghost use Rattle.records.specs.Plan.{stepCount, moveCount, moveOf, stepAt, stepEnd, stepsOf, stepsEnd, shaped, planCheck, Checked};
+ghost use Rattle.records.specs.Inner.{stepsOk};
+ghost use Rattle.records.specs.declared.faults.PlanCheck.{PlanCheck};
+
+// Whether so many steps from behind the header have counts in their ranges and fill the record.
+fn steps_sound(s: &[u8], count: usize) -> bool
+    requires { ⌜ (7 ≤ length (now s)) × (count ≤ 512) ⌝ }
+    ensures { λ r. ⌜ r ≡ stepsOk (now (s .entry)) 7 count 0 ⌝ }
+{
+    let mut at: usize = 7;
+    let mut left = count;
+    let mut moves: usize = 0;
+    while 0 < left {
+        if s.len() - at < 2 {
+            return false;
+        }
+        let n = count16(s, at);
+        if n < 1 {
+            return false;
+        }
+        if 256 < n {
+            return false;
+        }
+        if s.len() - at - 2 < n * 2 {
+            return false;
+        }
+        at = at + 2 + n * 2;
+        moves += n;
+        left -= 1;
+    }
+    if 1024 < moves {
+        return false;
+    }
+    at == s.len()
+}
+
+// 14: whether counts are in their ranges and the steps fill the record.
+fn shape_sound(s: &[u8]) -> bool
+    requires { ⌜ 7 ≤ length (now s) ⌝ }
+    ensures { λ r. ⌜ r ≡ (shaped (stepsOf (now (s .entry))) && eqb (stepsEnd (now (s .entry)) 7 (stepCount (now (s .entry)))) (length (now (s .entry)))) ⌝ }
+{
+    let count = count16(s, 5);
+    if 512 < count {
+        return false;
+    }
+    steps_sound(s, count)
+}
+
+// The first fault in checking order.
+fn first_fault(s: &[u8]) -> PlanCheck
+    ensures { λ r. ⌜ r ≡ planCheck (now (s .entry)) ⌝ }
+{
+    if s.len() < 7 {
+        return PlanCheck::Damaged(PlanFault::TooShort);
+    }
+    if byte(s, 0) != 1 {
+        return PlanCheck::Damaged(PlanFault::Version);
+    }
+    let stated = be32(s, 1) as usize;
+    if stated != s.len() {
+        return PlanCheck::Damaged(PlanFault::Length);
+    }
+    if !shape_sound(s) {
+        return PlanCheck::Damaged(PlanFault::Shape);
+    }
+    PlanCheck::Whole
+}
+
+// Whether a plan record is whole, or its first fault.
+pub fn plan_check(s: &[u8]) -> PlanCheck
+    ensures { λ r. ⌜ Checked (now (s .entry)) r ⌝ }
+{
+    first_fault(s)
+}
+
+// How many steps an undamaged record has. The first starts behind the header, at 7.
+pub fn step_count(s: &[u8]) -> usize
+    requires { ⌜ planCheck (now s) ≡ PlanCheck.Whole ⌝ }
+    ensures { λ r. ⌜ (r ≡ stepCount (now (s .entry))) × (r ≤ 512) ⌝ }
+{
+    count16(s, 5)
+}
+
+// How many moves the step at a place has.
+pub fn move_count(s: &[u8], at: usize) -> usize
+    requires { ⌜ stepEnd (now s) at ≤ length (now s) ⌝ }
+    ensures { λ r. ⌜ (r ≡ moveCount (now (s .entry)) at) × (r < 2 ^ 16) ⌝ }
+{
+    count16(s, at)
+}
+
+// Where the step at a place ends, and the next one starts.
+pub fn step_end(s: &[u8], at: usize) -> usize
+    requires { ⌜ stepEnd (now s) at ≤ length (now s) ⌝ }
+    ensures { λ r. ⌜ r ≡ stepEnd (now (s .entry)) at ⌝ }
+{
+    at + 2 + count16(s, at) * 2
+}
+
+// The VM of move i of the step at a place.
+pub fn move_vm(s: &[u8], at: usize, i: usize) -> u8
+    requires { ⌜ (stepEnd (now s) at ≤ length (now s)) × (i < moveCount (now s) at) ⌝ }
+    ensures { λ r. ⌜ r ≡ moveOf (stepAt (now (s .entry)) at) i .vm ⌝ }
+{
+    byte(s, at + 2 + i * 2)
+}
+
+// Its destination.
+pub fn move_to(s: &[u8], at: usize, i: usize) -> u8
+    requires { ⌜ (stepEnd (now s) at ≤ length (now s)) × (i < moveCount (now s) at) ⌝ }
+    ensures { λ r. ⌜ r ≡ moveOf (stepAt (now (s .entry)) at) i .to ⌝ }
+{
+    byte(s, at + 2 + i * 2 + 1)
+}

@@ -1,0 +1,103 @@
+// What an undamaged cluster record says, read in place: its counts, nodes and VMs.
+use crate::bytes::be16;
+use crate::bytes::be24;
+use crate::bytes::byte;
+use crate::cluster::constraints_start;
+use crate::cluster::vms_start;
+use crate::header::constraints;
+use crate::header::nodes;
+use crate::header::vms;
+ghost use mathlib.Core.Path.{_≡_};
+ghost use Prim.Native.Nat.{_+_, _*_, _≤_, _<_, _^_};
+ghost use lib.ListN.{length};
+ghost use Rattle.records.specs.Room.{nodeCount, vmCount, constraintCount, vmsStart, constraintsStart, roomOf, nodeOf, vmOf, clusterCheck};
+ghost use Rattle.records.specs.declared.faults.ClusterCheck.{ClusterCheck};
+
+pub fn node_count(s: &[u8]) -> usize
+    requires { ⌜ clusterCheck (now s) ≡ ClusterCheck.Whole ⌝ }
+    ensures { λ r. ⌜ (r ≡ nodeCount (now (s .entry))) × (1 ≤ r) × (r ≤ 64) ⌝ }
+{
+    nodes(s)
+}
+
+pub fn vm_count(s: &[u8]) -> usize
+    requires { ⌜ clusterCheck (now s) ≡ ClusterCheck.Whole ⌝ }
+    ensures { λ r. ⌜ (r ≡ vmCount (now (s .entry))) × (r ≤ 256) ⌝ }
+{
+    vms(s)
+}
+
+pub fn constraint_count(s: &[u8]) -> usize
+    requires { ⌜ clusterCheck (now s) ≡ ClusterCheck.Whole ⌝ }
+    ensures { λ r. ⌜ (r ≡ constraintCount (now (s .entry))) × (r ≤ 128) ⌝ }
+{
+    constraints(s)
+}
+
+// Where the first constraint starts; each next one starts where the one before it ends.
+pub fn first_constraint(s: &[u8]) -> usize
+    requires { ⌜ clusterCheck (now s) ≡ ClusterCheck.Whole ⌝ }
+    ensures { λ r. ⌜ r ≡ constraintsStart (now (s .entry)) ⌝ }
+{
+    constraints_start(s)
+}
+
+// Where the row of node d starts.
+fn node_row(s: &[u8], d: usize) -> usize
+    requires { ⌜ (clusterCheck (now s) ≡ ClusterCheck.Whole) × (d < nodeCount (now s)) ⌝ }
+    ensures { λ r. ⌜ (r ≡ 11 + d * 5) × (r + 5 ≤ length (now (s .entry))) ⌝ }
+{
+    11 + d * 5
+}
+
+// Where the row of VM v starts.
+fn vm_row(s: &[u8], v: usize) -> usize
+    requires { ⌜ (clusterCheck (now s) ≡ ClusterCheck.Whole) × (v < vmCount (now s)) ⌝ }
+    ensures { λ r. ⌜ (r ≡ vmsStart (now (s .entry)) + v * 7) × (r + 7 ≤ length (now (s .entry))) ⌝ }
+{
+    vms_start(s) + v * 7
+}
+
+pub fn node_memory(s: &[u8], d: usize) -> u32
+    requires { ⌜ (clusterCheck (now s) ≡ ClusterCheck.Whole) × (d < nodeCount (now s)) ⌝ }
+    ensures { λ r. ⌜ (r ≡ nodeOf (roomOf (now (s .entry))) d .memory) × (r < 2 ^ 24) ⌝ }
+{
+    be24(s, node_row(s, d))
+}
+
+pub fn node_cpu(s: &[u8], d: usize) -> u32
+    requires { ⌜ (clusterCheck (now s) ≡ ClusterCheck.Whole) × (d < nodeCount (now s)) ⌝ }
+    ensures { λ r. ⌜ (r ≡ nodeOf (roomOf (now (s .entry))) d .cpu) × (r < 2 ^ 16) ⌝ }
+{
+    be16(s, node_row(s, d) + 3)
+}
+
+pub fn vm_memory(s: &[u8], v: usize) -> u32
+    requires { ⌜ (clusterCheck (now s) ≡ ClusterCheck.Whole) × (v < vmCount (now s)) ⌝ }
+    ensures { λ r. ⌜ (r ≡ vmOf (roomOf (now (s .entry))) v .memory) × (1 ≤ r) × (r < 2 ^ 24) ⌝ }
+{
+    be24(s, vm_row(s, v))
+}
+
+pub fn vm_cpu(s: &[u8], v: usize) -> u32
+    requires { ⌜ (clusterCheck (now s) ≡ ClusterCheck.Whole) × (v < vmCount (now s)) ⌝ }
+    ensures { λ r. ⌜ (r ≡ vmOf (roomOf (now (s .entry))) v .cpu) × (r < 2 ^ 16) ⌝ }
+{
+    be16(s, vm_row(s, v) + 3)
+}
+
+// The node that VM v is on.
+pub fn vm_current(s: &[u8], v: usize) -> u8
+    requires { ⌜ (clusterCheck (now s) ≡ ClusterCheck.Whole) × (v < vmCount (now s)) ⌝ }
+    ensures { λ r. ⌜ (r ≡ vmOf (roomOf (now (s .entry))) v .current) × (r < nodeCount (now (s .entry))) ⌝ }
+{
+    byte(s, vm_row(s, v) + 5)
+}
+
+// The node that VM v is wanted on.
+pub fn vm_target(s: &[u8], v: usize) -> u8
+    requires { ⌜ (clusterCheck (now s) ≡ ClusterCheck.Whole) × (v < vmCount (now s)) ⌝ }
+    ensures { λ r. ⌜ (r ≡ vmOf (roomOf (now (s .entry))) v .target) × (r < nodeCount (now (s .entry))) ⌝ }
+{
+    byte(s, vm_row(s, v) + 6)
+}

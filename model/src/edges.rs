@@ -1,0 +1,710 @@
+//! Inputs set by hand on both sides of every limit, each with the outcome document 01 gives it.
+
+use crate::planner::BUFFER;
+use crate::records::{
+    cluster_bytes, cluster_bytes_with, plan_bytes, state_length, Constraint, Move, Node, Room,
+    Step, Vm,
+};
+
+/// One input with its expected outcome. `check` is `None` for accepted, else number and step;
+/// `build` is `None` for plan or blocked, else the number.
+#[derive(Clone, Debug)]
+pub struct Edge {
+    pub name: String,
+    pub cluster: Vec<u8>,
+    pub plan: Vec<u8>,
+    pub buffer: usize,
+    pub check: Option<(u8, u16)>,
+    pub build: Option<u8>,
+}
+
+// ---------------------------------------------------------------- short hands
+
+pub fn node(memory: u64, cpu: u64) -> Node {
+    Node { memory, cpu }
+}
+
+pub fn vm(memory: u64, cpu: u64, current: usize, target: usize) -> Vm {
+    Vm { memory, cpu, current, target }
+}
+
+pub fn room(nodes: &[Node], vms: &[Vm], constraints: &[Constraint]) -> Room {
+    Room { nodes: nodes.to_vec(), vms: vms.to_vec(), constraints: constraints.to_vec() }
+}
+
+/// Steps from pairs of VM and destination.
+pub fn steps(steps: &[&[(usize, usize)]]) -> Vec<Step> {
+    steps.iter().map(|s| s.iter().map(|&(vm, to)| Move { vm, to }).collect()).collect()
+}
+
+/// Document 01's cluster A.
+pub fn cluster_a() -> Room {
+    room(&[node(4, 100), node(4, 100), node(4, 100)], &[vm(3, 50, 0, 1), vm(2, 50, 1, 0)], &[])
+}
+
+/// Three roomy nodes and two VMs at home, for tests of shape.
+fn at_home() -> Room {
+    room(&[node(9, 9), node(9, 9), node(9, 9)], &[vm(1, 1, 0, 0), vm(1, 1, 1, 1)], &[])
+}
+
+fn ban(vms: &[usize], nodes: &[usize]) -> Constraint {
+    Constraint::Ban { vms: vms.to_vec(), nodes: nodes.to_vec() }
+}
+
+fn fence(vms: &[usize], nodes: &[usize]) -> Constraint {
+    Constraint::Fence { vms: vms.to_vec(), nodes: nodes.to_vec() }
+}
+
+fn spread(vms: &[usize]) -> Constraint {
+    Constraint::Spread { vms: vms.to_vec() }
+}
+
+fn latency(vms: &[usize], groups: &[&[usize]]) -> Constraint {
+    let groups = groups.iter().map(|group| group.to_vec()).collect();
+    Constraint::Latency { vms: vms.to_vec(), groups }
+}
+
+/// The cases gathered so far, with ways to add one.
+#[derive(Default)]
+struct Edges(Vec<Edge>);
+
+impl Edges {
+    /// A cluster's bytes beside a plan of no steps; `number` 0 means taken by both calls.
+    fn cluster(&mut self, name: &str, cluster: Vec<u8>, number: u8) {
+        let refusal = (number != 0).then_some(number);
+        self.0.push(Edge {
+            name: name.to_string(),
+            cluster,
+            plan: plan_bytes(&[]),
+            buffer: BUFFER,
+            check: refusal.map(|number| (number, 0)),
+            build: refusal,
+        });
+    }
+
+    /// As `cluster`, from a room.
+    fn room(&mut self, name: &str, room: &Room, number: u8) {
+        self.cluster(name, cluster_bytes(room), number);
+    }
+
+    /// As `cluster`, from the room at home with raw constraints.
+    fn bodies(&mut self, name: &str, bodies: &[&[u8]], number: u8) {
+        let bodies: Vec<Vec<u8>> = bodies.iter().map(|body| body.to_vec()).collect();
+        self.cluster(name, cluster_bytes_with(&at_home(), &bodies), number);
+    }
+
+    /// A plan's bytes for a room that has none of the faults 1 to 9.
+    fn plan(&mut self, name: &str, room: &Room, plan: Vec<u8>, check: Option<(u8, u16)>) {
+        let cluster = cluster_bytes(room);
+        let name = name.to_string();
+        self.0.push(Edge { name, cluster, plan, buffer: BUFFER, check, build: None });
+    }
+
+    /// As `plan`, from steps.
+    fn steps(
+        &mut self,
+        name: &str,
+        room: &Room,
+        list: &[&[(usize, usize)]],
+        check: Option<(u8, u16)>,
+    ) {
+        self.plan(name, room, plan_bytes(&steps(list)), check);
+    }
+}
+
+/// All hand-set cases.
+pub fn edges() -> Vec<Edge> {
+    let mut edges = Edges::default();
+    cluster_headers(&mut edges);
+    cluster_counts(&mut edges);
+    cluster_fill(&mut edges);
+    vm_rows(&mut edges);
+    constraint_shapes(&mut edges);
+    latency_shapes(&mut edges);
+    target_sums(&mut edges);
+    target_constraints(&mut edges);
+    buffers(&mut edges);
+    plan_headers(&mut edges);
+    plan_counts(&mut edges);
+    move_names(&mut edges);
+    closed_nodes(&mut edges);
+    fits(&mut edges);
+    spreads(&mut edges);
+    ends(&mut edges);
+    edges.0
+}
+
+/// Changes a good record's bytes.
+fn changed(bytes: &[u8], change: impl Fn(&mut Vec<u8>)) -> Vec<u8> {
+    let mut bytes = bytes.to_vec();
+    change(&mut bytes);
+    bytes
+}
+
+/// Takes the last byte off.
+fn cut(bytes: &mut Vec<u8>) {
+    bytes.pop();
+}
+
+/// As `changed`, with the length stated anew.
+fn restated(bytes: &[u8], change: impl Fn(&mut Vec<u8>)) -> Vec<u8> {
+    let mut bytes = changed(bytes, change);
+    state_length(&mut bytes);
+    bytes
+}
+
+// ---------------------------------------------------------------- 1 to 3
+
+fn cluster_headers(e: &mut Edges) {
+    let good = cluster_bytes(&at_home());
+    e.cluster("whole", good.clone(), 0);
+    e.cluster("no bytes", vec![], 1);
+    e.cluster("10 bytes", good[..10].to_vec(), 1);
+    e.cluster("10 bytes, version 2", changed(&good[..10], |b| b[0] = 2), 1);
+    e.cluster("11 bytes, version 0", changed(&good[..11], |b| b[0] = 0), 2);
+    e.cluster("11 bytes, length of the whole", good[..11].to_vec(), 3);
+    e.cluster("11 bytes that state so, rows missing", restated(&good[..11], |_| ()), 5);
+    for version in [0, 2, 255] {
+        e.cluster("version", changed(&good, |b| b[0] = version), 2);
+    }
+    e.cluster("version and length", changed(&good, |b| (b[0], b[4]) = (2, 0)), 2);
+    e.cluster("length one more", changed(&good, |b| b[4] += 1), 3);
+    e.cluster("length one less", changed(&good, |b| b[4] -= 1), 3);
+    e.cluster("length wrong in the highest byte", changed(&good, |b| b[1] = 1), 3);
+    e.cluster("length wrong in the second byte", changed(&good, |b| b[2] = 1), 3);
+    e.cluster("length wrong in the third byte", changed(&good, |b| b[3] = 1), 3);
+    e.cluster("one byte more lent than stated", changed(&good, |b| b.push(0)), 3);
+    e.cluster("one byte less lent than stated", changed(&good, cut), 3);
+    e.cluster("length and N", changed(&good, |b| (b[4], b[6]) = (0, 0)), 3);
+    for (size, left_over, one_constraint) in [(65_535, 5, 7), (65_536, 3, 3), (131_071, 3, 3)] {
+        e.cluster("long, bytes left over", restated(&good, |b| b.resize(size, 0)), left_over);
+        e.cluster("long, one big constraint", long_constraint(size), one_constraint);
+    }
+    let one_over = changed(&cluster_bytes(&at_home()), |b| {
+        b.resize(65_536, 0);
+        b[1..5].copy_from_slice(&[0, 0, 0xFF, 0xFF]);
+    });
+    e.cluster("65,536 bytes that state 65,535", one_over, 3);
+}
+
+/// A record of this size with one constraint that takes all the rest, as far as its own length
+/// field reaches. It fills the record only up to 65,535 bytes.
+fn long_constraint(size: usize) -> Vec<u8> {
+    let good = cluster_bytes(&at_home());
+    let body = size - good.len() - 2;
+    restated(&good, |b| {
+        b[10] = 1;
+        b.extend((body as u16).to_be_bytes());
+        b.push(3);
+        b.resize(size, 0);
+    })
+}
+
+// ---------------------------------------------------------------- 4
+
+fn cluster_counts(e: &mut Edges) {
+    let nodes = |n: usize| vec![node(300, 300); n];
+    let vms = |v: usize| vec![vm(1, 1, 0, 0); v];
+    let empties = |c: usize| vec![spread(&[]); c];
+    for (n, number) in [(0, 4), (1, 0), (2, 0), (63, 0), (64, 0), (65, 4), (256, 4), (257, 4)] {
+        e.room(&format!("N {n}"), &room(&nodes(n), &[], &[]), number);
+    }
+    for (v, number) in [(0, 0), (1, 0), (255, 0), (256, 0), (257, 4), (512, 4)] {
+        e.room(&format!("V {v}"), &room(&nodes(1), &vms(v), &[]), number);
+    }
+    for (c, number) in [(0, 0), (1, 0), (127, 0), (128, 0), (129, 4), (256, 4), (257, 4)] {
+        e.room(&format!("C {c}"), &room(&nodes(1), &[], &empties(c)), number);
+    }
+    e.room("all at their most", &room(&nodes(64), &vms(256), &empties(128)), 0);
+    let bare = |n: u16, v: u16, c: u16| {
+        let counts = [n.to_be_bytes(), v.to_be_bytes(), c.to_be_bytes()].concat();
+        [vec![1, 0, 0, 0, 11], counts].concat()
+    };
+    e.cluster("11 bytes, N 0", bare(0, 0, 0), 4);
+    e.cluster("11 bytes, N 1", bare(1, 0, 0), 5);
+    e.cluster("11 bytes, N 64", bare(64, 0, 0), 5);
+    e.cluster("11 bytes, N 65", bare(65, 0, 0), 4);
+    e.cluster("11 bytes, V 256", bare(1, 256, 0), 5);
+    e.cluster("11 bytes, V 257", bare(1, 257, 0), 4);
+    e.cluster("11 bytes, C 128", bare(1, 0, 128), 5);
+    e.cluster("11 bytes, C 129", bare(1, 0, 129), 4);
+    e.cluster("11 bytes, all too large", bare(65_535, 65_535, 65_535), 4);
+}
+
+// ---------------------------------------------------------------- 5
+
+fn cluster_fill(e: &mut Edges) {
+    let good = cluster_bytes(&at_home());
+    let two =
+        cluster_bytes(&room(&at_home().nodes, &at_home().vms, &[ban(&[0], &[2]), spread(&[0, 1])]));
+    let rows = good.len();
+    e.cluster("two constraints", two.clone(), 0);
+    e.cluster("one byte over", restated(&good, |b| b.push(0)), 5);
+    e.cluster("one byte short", restated(&good, cut), 5);
+    e.cluster("one byte over behind constraints", restated(&two, |b| b.push(0)), 5);
+    e.cluster("one byte short in a constraint", restated(&two, cut), 5);
+    e.cluster("rows cut in the nodes", restated(&good, |b| b.truncate(13)), 5);
+    e.cluster("one constraint more than there is", changed(&two, |b| b[10] = 3), 5);
+    e.cluster("one constraint less than there is", changed(&two, |b| b[10] = 1), 5);
+    e.cluster("one VM more than there is", changed(&good, |b| b[8] = 3), 5);
+    e.cluster("one VM less than there is", changed(&good, |b| b[8] = 1), 5);
+    e.cluster(
+        "half a constraint length",
+        restated(&changed(&good, |b| b[10] = 1), |b| b.push(0)),
+        5,
+    );
+    e.cluster("last length one more", changed(&two, |b| b[rows + 2 + 6 + 1] += 1), 5);
+    e.cluster("last length one less", changed(&two, |b| b[rows + 2 + 6 + 1] -= 1), 5);
+    e.cluster("length with its high byte set", changed(&two, |b| b[rows] = 1), 5);
+    // Two neighbours whose lengths are both off by one, so that they still fill the record.
+    let shifted = cluster_bytes_with(&at_home(), &[vec![3, 0, 0, 0], vec![3, 0]]);
+    e.cluster("lengths that fill it together, lists that do not", shifted, 7);
+    let mut bad_row = at_home();
+    bad_row.vms[0].memory = 0;
+    let bad_row = cluster_bytes(&bad_row);
+    e.cluster("a bad row", bad_row.clone(), 6);
+    e.cluster("a bad row and one byte over", restated(&bad_row, |b| b.push(0)), 5);
+}
+
+// ---------------------------------------------------------------- 6
+
+fn vm_rows(e: &mut Edges) {
+    let with = |row: Vm| room(&at_home().nodes, &[vm(1, 1, 0, 0), row], &[]);
+    e.room("memory 0", &with(vm(0, 1, 1, 1)), 6);
+    e.room("memory 1", &with(vm(1, 1, 1, 1)), 0);
+    e.room("memory and CPU 0", &with(vm(0, 0, 1, 1)), 6);
+    e.room("CPU 0", &with(vm(1, 0, 1, 1)), 0);
+    e.room("current N - 1, target N - 1", &with(vm(1, 1, 2, 2)), 0);
+    e.room("current N", &with(vm(1, 1, 3, 1)), 6);
+    e.room("target N", &with(vm(1, 1, 1, 3)), 6);
+    e.room("current 255", &with(vm(1, 1, 255, 1)), 6);
+    e.room("target 255", &with(vm(1, 1, 1, 255)), 6);
+    let mut both = with(vm(0, 1, 1, 1));
+    both.constraints.push(spread(&[2]));
+    e.room("a bad row beside a bad constraint", &both, 6);
+    let most = room(&[node(16_777_215, 65_535)], &[vm(16_777_215, 65_535, 0, 0)], &[]);
+    e.room("the largest VM on the largest node", &most, 0);
+}
+
+// ---------------------------------------------------------------- 7
+
+fn constraint_shapes(e: &mut Edges) {
+    e.bodies(
+        "empty lists of every kind",
+        &[&[1, 0, 0, 0], &[2, 0, 0, 0], &[3, 0, 0], &[4, 0, 0, 0]],
+        0,
+    );
+    e.bodies("stated length 0", &[&[]], 7);
+    e.bodies("stated length 0 between good ones", &[&[3, 0, 0], &[], &[3, 0, 0]], 7);
+    for kind in 1..=4 {
+        e.bodies("a kind and nothing else", &[&[kind]], 7);
+        e.bodies("half a VM count", &[&[kind, 0]], 7);
+    }
+    for kind in [0, 5, 6, 255] {
+        e.bodies("unknown kind", &[&[kind, 0, 0, 0]], 7);
+        e.bodies("unknown kind alone", &[&[kind]], 7);
+    }
+    e.bodies("spread with a byte over", &[&[3, 0, 0, 0]], 7);
+    e.bodies("spread one VM short", &[&[3, 0, 2, 0]], 7);
+    e.bodies("spread of both", &[&[3, 0, 2, 0, 1]], 0);
+    e.bodies("VM count wrong in its high byte", &[&[3, 1, 2, 0, 1]], 7);
+    e.bodies("VMs equal", &[&[3, 0, 2, 1, 1]], 7);
+    e.bodies("VMs fall", &[&[3, 0, 2, 1, 0]], 7);
+    e.bodies("VM V - 1", &[&[3, 0, 1, 1]], 0);
+    e.bodies("VM V", &[&[3, 0, 1, 2]], 7);
+    e.bodies("VM 255", &[&[3, 0, 1, 255]], 7);
+    for kind in [1, 2] {
+        e.bodies("no node list", &[&[kind, 0, 0]], 7);
+        e.bodies("node list one short", &[&[kind, 0, 0, 1]], 7);
+        e.bodies("node list with a byte over", &[&[kind, 0, 0, 0, 0]], 7);
+        e.bodies("node N - 1", &[&[kind, 0, 0, 1, 2]], 0);
+        e.bodies("node N", &[&[kind, 0, 0, 1, 3]], 7);
+        e.bodies("nodes equal", &[&[kind, 0, 0, 2, 1, 1]], 7);
+        e.bodies("nodes fall", &[&[kind, 0, 0, 2, 1, 0]], 7);
+        e.bodies("nodes rise", &[&[kind, 0, 0, 3, 0, 1, 2]], 0);
+        e.bodies("node count too wide", &[&[kind, 0, 0, 0, 1, 2]], 7);
+        e.bodies("bad VM, good nodes", &[&[kind, 0, 1, 2, 0]], 7);
+    }
+    e.bodies("the second is bad", &[&[3, 0, 0], &[3, 0, 1, 2]], 7);
+    e.bodies("bad, and the target breaks another", &[&[1, 0, 1, 0, 1, 0], &[3, 0, 1, 2]], 7);
+    let mut too_much = cluster_bytes_with(&at_home(), &[vec![9]]);
+    too_much[11..14].copy_from_slice(&[0, 0, 0]);
+    e.cluster("a bad constraint beside an overfull target", too_much, 7);
+    let all: Vec<usize> = (0..256).collect();
+    let full = room(&[node(256, 0)], &vec![vm(1, 0, 0, 0); 256], &[fence(&all, &[0])]);
+    e.room("a list of 256 VMs", &full, 0);
+    let body: Vec<u8> = [vec![3, 1, 1], (0..=255).collect(), vec![255]].concat();
+    let room = room(&[node(256, 0)], &vec![vm(1, 0, 0, 0); 256], &[]);
+    e.cluster("a list of 257 VMs", cluster_bytes_with(&room, &[body]), 7);
+}
+
+fn latency_shapes(e: &mut Edges) {
+    let empty_groups = |count: u8| [vec![4, 0, 0, count], vec![0; usize::from(count)]].concat();
+    for (count, number) in [(0, 0), (1, 0), (63, 0), (64, 0), (65, 7), (255, 7)] {
+        e.bodies(&format!("{count} empty groups"), &[&empty_groups(count)], number);
+    }
+    e.bodies("no group count", &[&[4, 0, 0]], 7);
+    e.bodies("one group less than counted", &[&[4, 0, 0, 2, 0]], 7);
+    e.bodies("one group more than counted", &[&[4, 0, 0, 1, 0, 0]], 7);
+    e.bodies("two groups", &[&[4, 0, 0, 2, 1, 0, 2, 1, 2]], 0);
+    e.bodies("two groups, the higher first", &[&[4, 0, 0, 2, 2, 1, 2, 1, 0]], 0);
+    e.bodies("a node in two groups, no VMs", &[&[4, 0, 0, 2, 2, 0, 1, 2, 1, 2]], 7);
+    e.bodies("a node in groups 1 and 3", &[&[4, 0, 0, 3, 1, 0, 1, 1, 1, 0]], 7);
+    e.bodies("a node in two groups, with a VM", &[&[4, 0, 1, 0, 2, 1, 0, 1, 0]], 7);
+    e.bodies("group nodes equal", &[&[4, 0, 0, 1, 2, 1, 1]], 7);
+    e.bodies("group nodes fall", &[&[4, 0, 0, 1, 2, 1, 0]], 7);
+    e.bodies("group node N", &[&[4, 0, 0, 1, 1, 3]], 7);
+    e.bodies("the last group cut", &[&[4, 0, 0, 2, 1, 0, 2, 1]], 7);
+    let singles: Vec<Vec<usize>> = (0..64).map(|n| vec![n]).collect();
+    let latency = Constraint::Latency { vms: vec![0], groups: singles };
+    let wide = room(&vec![node(1, 1); 64], &[vm(1, 1, 0, 63)], &[latency]);
+    e.0.push(Edge {
+        name: "64 groups of one node".to_string(),
+        cluster: cluster_bytes(&wide),
+        plan: plan_bytes(&steps(&[&[(0, 63)]])),
+        buffer: BUFFER,
+        check: None,
+        build: None,
+    });
+}
+
+// ---------------------------------------------------------------- 8 and 9
+
+fn target_sums(e: &mut Edges) {
+    let two = |memory, cpu| {
+        room(&[node(memory, cpu), node(0, 0)], &[vm(3, 5, 0, 0), vm(4, 6, 0, 0)], &[])
+    };
+    e.room("target memory just fits", &two(7, 11), 0);
+    e.room("target memory one over", &two(6, 11), 8);
+    e.room("target CPU just fits", &two(100, 11), 0);
+    e.room("target CPU one over", &two(100, 10), 8);
+    e.room("both one over", &two(6, 10), 8);
+    e.room("nothing on a node of nothing", &room(&[node(0, 0)], &[], &[]), 0);
+    e.room("memory 1 on memory 0", &room(&[node(0, 9)], &[vm(1, 0, 0, 0)], &[]), 8);
+    e.room("CPU 0 on CPU 0", &room(&[node(1, 0)], &[vm(1, 0, 0, 0)], &[]), 0);
+    e.room("CPU 1 on CPU 0", &room(&[node(1, 0)], &[vm(1, 1, 0, 0)], &[]), 8);
+    let wide = |count| room(&[node(16_777_215, 65_535)], &vec![vm(65_536, 256, 0, 0); count], &[]);
+    e.room("255 large VMs on one node", &wide(255), 0);
+    e.room("256 large VMs on one node, sums that wrap their fields", &wide(256), 8);
+    let huge = room(&[node(16_777_215, 65_535)], &vec![vm(16_777_215, 65_535, 0, 0); 256], &[]);
+    e.room("256 of the largest VMs", &huge, 8);
+    let last = room(&[node(9, 9), node(1, 1)], &[vm(1, 1, 0, 0), vm(2, 1, 0, 1)], &[]);
+    e.room("too much on the last node", &last, 8);
+    let mut both = two(6, 11);
+    both.constraints.push(ban(&[0], &[0]));
+    e.room("too much, and a constraint broken", &both, 8);
+}
+
+fn target_constraints(e: &mut Edges) {
+    let with = |list: &[Constraint]| room(&at_home().nodes, &at_home().vms, list);
+    e.room("ban elsewhere", &with(&[ban(&[0], &[1, 2])]), 0);
+    e.room("ban where it stays", &with(&[ban(&[0], &[0])]), 9);
+    e.room("ban of the other's node", &with(&[ban(&[0, 1], &[0])]), 9);
+    e.room("ban of no VM", &with(&[ban(&[], &[0, 1, 2])]), 0);
+    e.room("ban from no node", &with(&[ban(&[0, 1], &[])]), 0);
+    e.room("fence around", &with(&[fence(&[0, 1], &[0, 1])]), 0);
+    e.room("fence elsewhere", &with(&[fence(&[0], &[1, 2])]), 9);
+    e.room("fence of no node", &with(&[fence(&[0], &[])]), 9);
+    e.room("fence of no VM and no node", &with(&[fence(&[], &[])]), 0);
+    e.room("two fences that meet", &with(&[fence(&[0], &[0, 1]), fence(&[0], &[0, 2])]), 0);
+    e.room("fence, then ban inside it", &with(&[fence(&[0], &[0, 1]), ban(&[0], &[0])]), 9);
+    e.room("spread of both", &with(&[spread(&[0, 1])]), 0);
+    let together = room(&at_home().nodes, &[vm(1, 1, 0, 2), vm(1, 1, 1, 2)], &[spread(&[0, 1])]);
+    e.room("spread on one target", &together, 9);
+    let chain = room(
+        &at_home().nodes,
+        &[vm(1, 1, 0, 0), vm(1, 1, 1, 1), vm(1, 1, 0, 0)],
+        &[spread(&[0, 1]), spread(&[1, 2])],
+    );
+    e.room("two spreads that share a VM do not merge", &chain, 0);
+    e.room("latency in one group", &with(&[latency(&[0, 1], &[&[2], &[0, 1]])]), 0);
+    e.room("latency in two groups", &with(&[latency(&[0, 1], &[&[0, 2], &[1]])]), 9);
+    e.room("latency, one in no group", &with(&[latency(&[0, 1], &[&[0, 2]])]), 9);
+    e.room("latency, both in no group", &with(&[latency(&[0, 1], &[&[2]])]), 9);
+    e.room("latency of no group", &with(&[latency(&[0], &[])]), 9);
+    e.room("latency of no VM and no group", &with(&[latency(&[], &[])]), 0);
+    e.room("latency of no VM", &with(&[latency(&[], &[&[2], &[]])]), 0);
+    e.room("the last constraint is broken", &with(&[spread(&[]), ban(&[1], &[1])]), 9);
+    let banned = cluster_bytes(&with(&[ban(&[0], &[0])]));
+    let mut edge = |name: &str, plan: Vec<u8>, buffer| {
+        let (name, cluster) = (name.to_string(), banned.clone());
+        e.0.push(Edge { name, cluster, plan, buffer, check: Some((9, 0)), build: Some(9) });
+    };
+    edge("9 before 10", plan_bytes(&[]), 0);
+    edge("9 before 11", vec![], BUFFER);
+}
+
+// ---------------------------------------------------------------- 10
+
+fn buffers(e: &mut Edges) {
+    let sizes = [(0, Some(10)), (7, Some(10)), (2_050, Some(10)), (2_051, None), (2_052, None)];
+    for (buffer, build) in sizes {
+        e.0.push(Edge {
+            name: format!("buffer {buffer}"),
+            cluster: cluster_bytes(&at_home()),
+            plan: plan_bytes(&[]),
+            buffer,
+            check: None,
+            build,
+        });
+    }
+}
+
+// ---------------------------------------------------------------- 11 to 14
+
+fn plan_headers(e: &mut Edges) {
+    let home = at_home();
+    let good = plan_bytes(&steps(&[&[(0, 2)], &[(0, 0)]]));
+    let at = |number: u8| Some((number, 0));
+    e.plan("away and back", &home, good.clone(), None);
+    e.plan("no plan bytes", &home, vec![], at(11));
+    e.plan("6 plan bytes", &home, good[..6].to_vec(), at(11));
+    e.plan("6 plan bytes, version 2", &home, changed(&good[..6], |b| b[0] = 2), at(11));
+    e.plan("7 plan bytes, version 0", &home, changed(&good[..7], |b| b[0] = 0), at(12));
+    e.plan("7 plan bytes, length of the whole", &home, good[..7].to_vec(), at(13));
+    e.plan("7 plan bytes, two steps counted", &home, restated(&good[..7], |_| ()), at(14));
+    e.plan("7 plan bytes, no steps", &home, plan_bytes(&[]), None);
+    for version in [0, 2, 255] {
+        e.plan("plan version", &home, changed(&good, |b| b[0] = version), at(12));
+    }
+    e.plan("plan version and length", &home, changed(&good, |b| (b[0], b[4]) = (0, 0)), at(12));
+    e.plan("plan length one more", &home, changed(&good, |b| b[4] += 1), at(13));
+    e.plan("plan length one less", &home, changed(&good, |b| b[4] -= 1), at(13));
+    for byte in 1..4 {
+        e.plan("plan length, a high byte", &home, changed(&good, |b| b[byte] = 1), at(13));
+    }
+    e.plan("plan, one byte more lent", &home, changed(&good, |b| b.push(0)), at(13));
+    e.plan("plan, one byte less lent", &home, changed(&good, cut), at(13));
+    e.plan(
+        "plan length and step count",
+        &home,
+        changed(&good, |b| (b[4], b[5]) = (0, 255)),
+        at(13),
+    );
+    e.plan("plan, one byte over", &home, restated(&good, |b| b.push(0)), at(14));
+    e.plan("plan, one byte short", &home, restated(&good, cut), at(14));
+    e.plan("plan, a step short", &home, changed(&good, |b| b[6] = 3), at(14));
+    e.plan("plan, a step over", &home, changed(&good, |b| b[6] = 1), at(14));
+    e.plan("plan, no steps counted", &home, changed(&good, |b| b[6] = 0), at(14));
+    e.plan("plan, half a move count", &home, restated(&good[..8], |b| b[6] = 1), at(14));
+    e.plan("plan, half a move", &home, restated(&good[..10], |b| b[6] = 1), at(14));
+    e.plan("plan of 65,536 bytes", &home, restated(&good, |b| b.resize(65_536, 0)), at(14));
+    e.plan("plan of 70,000 bytes", &home, restated(&good, |b| b.resize(70_000, 0)), at(14));
+}
+
+/// A plan whose first two VMs go to and fro between two nodes each, one row of counts per step.
+fn to_and_fro(moves: &[usize]) -> Vec<Step> {
+    moves
+        .iter()
+        .enumerate()
+        .map(|(i, &count)| (0..count).map(|vm| Move { vm, to: 1 - i % 2 }).collect())
+        .collect()
+}
+
+fn plan_counts(e: &mut Edges) {
+    let at = |number: u8| Some((number, 0));
+    let wide = room(&vec![node(16_777_215, 65_535); 2], &vec![vm(1, 1, 0, 0); 256], &[]);
+    let mut plan = |name: &str, moves: &[usize], check| {
+        e.plan(name, &wide, plan_bytes(&to_and_fro(moves)), check);
+    };
+    plan("512 steps", &[1; 512], None);
+    plan("513 steps", &[1; 513], at(14));
+    plan("514 steps", &[1; 514], at(14));
+    plan("a step of 256 moves", &[256, 256], None);
+    plan("a step of 257 moves", &[257, 257], at(14));
+    plan("257 moves in a later step", &[256, 257], at(14));
+    plan("a step of no moves", &[0], at(14));
+    plan("a step of no moves in the middle", &[1, 0, 1], at(14));
+    plan("a step of one move", &[1, 1], None);
+    plan("1,024 moves in 4 steps", &[256; 4], None);
+    plan("1,025 moves in 5 steps", &[256, 256, 256, 256, 1], at(14));
+    plan("1,024 moves in 512 steps", &[2; 512], None);
+    let mut more = [2; 512];
+    more[511] = 3;
+    plan("1,025 moves in 512 steps", &more, at(14));
+    plan("1,026 moves in 6 steps", &[256, 256, 256, 256, 1, 1], at(14));
+
+    let home = at_home();
+    let zero = changed(&plan_bytes(&to_and_fro(&[1])), |b| b[8] = 0);
+    e.plan("move count 0 before a move", &home, zero, at(14));
+    let high = changed(&plan_bytes(&to_and_fro(&[1])), |b| b[7] = 1);
+    e.plan("move count 257, one move there", &home, high, at(14));
+    let faulty = restated(&plan_bytes(&steps(&[&[(9, 9)]])), |b| b.push(0));
+    e.plan("a byte over behind a faulty step", &home, faulty, at(14));
+    let faulty = plan_bytes(&steps(&[&[(9, 9)], &[]]));
+    e.plan("an empty step behind a faulty step", &home, faulty, at(14));
+    let mut long = to_and_fro(&[256, 256, 256, 256, 1]);
+    long[0][0].to = 9;
+    e.plan("1,025 moves, the first of them faulty", &wide, plan_bytes(&long), at(14));
+    e.plan("512 steps counted, none there", &home, changed(&plan_bytes(&[]), |b| b[5] = 2), at(14));
+
+    // The longest and dearest kind of plan: the largest VMs on nodes that hold just one.
+    let big = room(
+        &vec![node(16_777_215, 65_535); 4],
+        &[vm(16_777_215, 65_535, 0, 0), vm(16_777_215, 65_535, 1, 1)],
+        &[],
+    );
+    let sway = |i: usize| steps(&[&[(0, 2 - 2 * (i % 2)), (1, 3 - 2 * (i % 2))]]).remove(0);
+    let dear: Vec<Step> = (0..512).map(sway).collect();
+    e.plan("1,024 moves of the largest VMs", &big, plan_bytes(&dear), None);
+}
+
+// ---------------------------------------------------------------- 15 and 16
+
+fn move_names(e: &mut Edges) {
+    let home = at_home();
+    let at = |step: u16| Some((15, step));
+    e.steps("VM V", &home, &[&[(2, 0)]], at(1));
+    e.steps("VM 255", &home, &[&[(255, 0)]], at(1));
+    e.steps("VM V in step 2", &home, &[&[(0, 2)], &[(2, 0)]], at(2));
+    e.steps("a VM twice", &home, &[&[(0, 1), (0, 2)]], at(1));
+    e.steps("VMs fall", &home, &[&[(1, 0), (0, 1)]], at(1));
+    e.steps("VMs start anew in each step", &home, &[&[(1, 2)], &[(0, 2)], &[(0, 0), (1, 1)]], None);
+    e.steps("to node N", &home, &[&[(0, 3)]], at(1));
+    e.steps("to node 255", &home, &[&[(0, 255)]], at(1));
+    e.steps("to where it is", &home, &[&[(0, 0)]], at(1));
+    e.steps("back to the record's node", &home, &[&[(0, 1)], &[(0, 0)]], None);
+    e.steps("to where step 1 left it", &home, &[&[(0, 1)], &[(0, 1)], &[(0, 0)]], at(2));
+    e.steps("the second move stays", &home, &[&[(0, 2), (1, 1)]], at(1));
+    e.steps("the last of three steps", &home, &[&[(0, 2)], &[(0, 0)], &[(9, 0)]], at(3));
+    let none = room(&[node(1, 1)], &[], &[]);
+    e.steps("no VMs", &none, &[&[(0, 0)]], at(1));
+    let full = room(&[node(300, 0), node(300, 0)], &vec![vm(1, 0, 0, 0); 256], &[]);
+    e.steps("VM 255 of 256", &full, &[&[(255, 1)], &[(255, 0)]], None);
+}
+
+fn closed_nodes(e: &mut Edges) {
+    let closed = |list: &[Constraint]| room(&at_home().nodes, &at_home().vms, list);
+    let at = |number: u8, step: u16| Some((number, step));
+    let banned = closed(&[ban(&[0], &[2])]);
+    e.steps("to a banned node", &banned, &[&[(0, 2)], &[(0, 0)]], at(16, 1));
+    e.steps("the other VM to that node", &banned, &[&[(1, 2)], &[(1, 1)]], None);
+    e.steps("to an open node", &banned, &[&[(0, 1)], &[(0, 0)]], None);
+    let fenced = closed(&[fence(&[0], &[0, 1])]);
+    e.steps("out of a fence", &fenced, &[&[(0, 2)], &[(0, 0)]], at(16, 1));
+    e.steps("within a fence", &fenced, &[&[(0, 1)], &[(0, 0)]], None);
+    let two = closed(&[fence(&[0], &[0, 1]), fence(&[0], &[0, 2])]);
+    e.steps("within one of two fences", &two, &[&[(0, 1)], &[(0, 0)]], at(16, 1));
+    e.steps("15 at a later move comes before 16", &banned, &[&[(0, 2), (1, 1)]], at(15, 1));
+    e.steps("16 in step 1, 15 in step 2", &banned, &[&[(0, 2)], &[(9, 9)]], at(16, 1));
+    let grouped = closed(&[latency(&[0, 1], &[&[0, 1], &[2]])]);
+    e.steps("out of a latency group on the way", &grouped, &[&[(0, 2)], &[(0, 0)]], None);
+    let from_banned = room(&at_home().nodes, &[vm(1, 1, 2, 0)], &[ban(&[0], &[2])]);
+    e.steps("away from a banned node", &from_banned, &[&[(0, 0)]], None);
+    let tight = room(
+        &[node(1, 1), node(1, 1), node(1, 1)],
+        &[vm(1, 1, 0, 0), vm(1, 1, 1, 1)],
+        &[ban(&[1], &[2]), spread(&[0, 1])],
+    );
+    e.steps("16 before 17", &tight, &[&[(0, 1), (1, 2)]], at(16, 1));
+    e.steps("17 before 18", &tight, &[&[(0, 1)]], at(17, 1));
+    e.steps("16 in step 2", &tight, &[&[(0, 2)], &[(1, 2)]], at(16, 2));
+}
+
+// ---------------------------------------------------------------- 17
+
+fn fits(e: &mut Edges) {
+    let at = |step: u16| Some((17, step));
+    let onto = |memory, cpu| {
+        room(&[node(9, 9), node(memory, cpu)], &[vm(3, 4, 0, 0), vm(2, 2, 1, 1)], &[])
+    };
+    let there: &[&[(usize, usize)]] = &[&[(0, 1)], &[(0, 0)]];
+    e.steps("memory just fits", &onto(5, 9), there, None);
+    e.steps("memory one over", &onto(4, 9), there, at(1));
+    e.steps("CPU just fits", &onto(9, 6), there, None);
+    e.steps("CPU one over", &onto(9, 5), there, at(1));
+    let swap =
+        |memory| room(&[node(memory, 9), node(memory, 9)], &[vm(3, 1, 0, 1), vm(2, 1, 1, 0)], &[]);
+    e.steps("swap with room for both", &swap(5), &[&[(0, 1), (1, 0)]], None);
+    e.steps("a departure does not pay", &swap(4), &[&[(0, 1), (1, 0)]], at(1));
+    let three =
+        |memory| room(&[node(9, 9), node(memory, 9)], &[vm(2, 1, 0, 1), vm(2, 1, 0, 1)], &[]);
+    e.steps("two arrivals that fit together", &three(4), &[&[(0, 1), (1, 1)]], None);
+    let pair = room(&[node(9, 9), node(3, 9), node(9, 9)], &[vm(2, 1, 0, 0), vm(2, 1, 0, 0)], &[]);
+    e.steps("two arrivals that fit alone", &pair, &[&[(0, 1), (1, 1)]], at(1));
+    e.steps(
+        "one after the other",
+        &pair,
+        &[&[(0, 1)], &[(0, 2)], &[(1, 1)], &[(0, 0), (1, 0)]],
+        None,
+    );
+    e.steps("the second still there", &pair, &[&[(0, 1)], &[(1, 1)]], at(2));
+
+    // Node 1 starts over its CPU with VMs 1 and 2.
+    let over = room(
+        &[node(9, 9), node(9, 5), node(9, 9)],
+        &[vm(1, 0, 0, 1), vm(1, 3, 1, 1), vm(1, 3, 1, 2)],
+        &[],
+    );
+    e.steps("CPU 0 onto a node over its CPU", &over, &[&[(0, 1)], &[(2, 2)]], at(1));
+    e.steps("beside the VM that leaves", &over, &[&[(0, 1), (2, 2)]], at(1));
+    e.steps("once it is within", &over, &[&[(2, 2)], &[(0, 1)]], None);
+    let heap = room(
+        &[node(1, 9), node(9, 9), node(9, 9)],
+        &[vm(1, 1, 0, 0), vm(4, 1, 0, 1), vm(4, 1, 0, 2)],
+        &[],
+    );
+    e.steps("an overfull start with no arrival", &heap, &[&[(1, 1), (2, 2)]], None);
+    e.steps("one leaves at a time", &heap, &[&[(1, 1)], &[(2, 2)]], None);
+    let zero = room(&[node(9, 9), node(0, 0)], &[vm(1, 0, 0, 0)], &[]);
+    e.steps("onto a node of nothing", &zero, &[&[(0, 1)], &[(0, 0)]], at(1));
+    let big = room(
+        &[node(16_777_215, 65_535), node(16_777_215, 65_535)],
+        &[vm(16_777_215, 65_535, 0, 0), vm(1, 1, 1, 1)],
+        &[],
+    );
+    e.steps("one more than the most", &big, &[&[(0, 1)], &[(0, 0)]], at(1));
+    let wrap = room(
+        &[node(16_777_215, 65_535), node(16_777_215, 65_535)],
+        &vec![vm(65_536, 256, 0, 1); 255],
+        &[],
+    );
+    let all: Vec<(usize, usize)> = (0..255).map(|vm| (vm, 1)).collect();
+    e.steps("255 arrivals that just fit", &wrap, &[&all], None);
+    let mut heavy = vec![vm(65_536, 256, 0, 0); 256];
+    heavy[255].current = 1;
+    heavy[255].target = 1;
+    let wrap = room(&[node(16_777_215, 65_535), node(16_777_215, 65_535)], &heavy, &[]);
+    e.steps("255 arrivals that would wrap", &wrap, &[&all], at(1));
+    e.steps("17 at a later destination", &onto(4, 9), &[&[(1, 0)], &[(0, 1), (1, 1)]], at(2));
+}
+
+// ---------------------------------------------------------------- 18 and 19
+
+fn spreads(e: &mut Edges) {
+    let at = |step: u16| Some((18, step));
+    let apart = room(&at_home().nodes, &at_home().vms, &[spread(&[0, 1])]);
+    e.steps("onto a mate that stays", &apart, &[&[(0, 1)], &[(0, 0)]], at(1));
+    e.steps("onto a mate that leaves", &apart, &[&[(0, 1), (1, 2)]], at(1));
+    e.steps("mates arrive together", &apart, &[&[(0, 2), (1, 2)]], at(1));
+    e.steps("mates change places", &apart, &[&[(0, 1), (1, 0)]], at(1));
+    e.steps("a mate gone before", &apart, &[&[(1, 2)], &[(0, 1)], &[(0, 0)], &[(1, 1)]], None);
+    e.steps("a mate in the way in step 3", &apart, &[&[(1, 2)], &[(0, 1)], &[(1, 1)]], at(3));
+    let met = room(&at_home().nodes, &[vm(1, 1, 0, 0), vm(1, 1, 0, 1)], &[spread(&[0, 1])]);
+    e.steps("mates that start together, one leaves", &met, &[&[(1, 1)]], None);
+    let both = room(&at_home().nodes, &[vm(1, 1, 0, 1), vm(1, 1, 0, 2)], &[spread(&[0, 1])]);
+    e.steps("mates that start together, both leave", &both, &[&[(0, 1), (1, 2)]], None);
+    let chain = room(
+        &at_home().nodes,
+        &[vm(1, 1, 0, 2), vm(1, 1, 1, 1), vm(1, 1, 0, 2)],
+        &[spread(&[0, 1]), spread(&[1, 2])],
+    );
+    e.steps("no mates through a third", &chain, &[&[(0, 2), (2, 2)]], None);
+    e.steps("a mate of the second spread", &chain, &[&[(2, 1)]], at(1));
+    let follow = room(&at_home().nodes, &[vm(1, 1, 0, 1), vm(1, 1, 1, 2)], &[spread(&[0, 1])]);
+    e.steps("into a leaving mate's node", &follow, &[&[(0, 1), (1, 2)]], at(1));
+    e.steps("the mate first", &follow, &[&[(1, 2)], &[(0, 1)]], None);
+}
+
+fn ends(e: &mut Edges) {
+    let a = cluster_a();
+    let at = Some((19, 0));
+    e.steps("no steps, two out of place", &a, &[], at);
+    e.steps("the planner's steps", &a, &[&[(0, 2)], &[(1, 0)], &[(0, 1)]], None);
+    e.steps("all but the last", &a, &[&[(0, 2)], &[(1, 0)]], at);
+    e.steps("one more behind the last", &a, &[&[(0, 2)], &[(1, 0)], &[(0, 1)], &[(1, 2)]], at);
+    e.steps("a fault before the end", &a, &[&[(0, 2)], &[(0, 0)], &[(1, 0)]], Some((17, 3)));
+    let home = at_home();
+    e.steps("home already", &home, &[], None);
+    e.steps("home, and one sent away", &home, &[&[(0, 2)]], at);
+}

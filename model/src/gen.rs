@@ -1,0 +1,863 @@
+//! Seeded generators: valid clusters of many kinds, plans good and spoilt, and damage to both
+//! records. The same seed always gives the same inputs.
+
+use crate::planner::{make_steps, make_steps_from, BUFFER};
+use crate::records::{
+    cluster_bytes_with, constraint_body, plan_bytes, state_length, Constraint, Move, Node, Room,
+    Step, Vm, CLUSTER_HEADER, NODE_ROW, PLAN_HEADER, VM_ROW,
+};
+use crate::rules::{mates, may_go, step_fault, Book, Placement, Sum};
+
+pub const MOST_MEMORY: u64 = 16_777_215;
+pub const MOST_CPU: u64 = 65_535;
+
+// ---------------------------------------------------------------- random numbers
+
+/// The splitmix64 generator.
+#[derive(Clone, Debug)]
+pub struct Rng(u64);
+
+impl Rng {
+    pub fn new(seed: u64) -> Rng {
+        Rng(seed)
+    }
+
+    pub fn draw(&mut self) -> u64 {
+        self.0 = self.0.wrapping_add(0x9E37_79B9_7F4A_7C15);
+        let mut z = self.0;
+        z = (z ^ (z >> 30)).wrapping_mul(0xBF58_476D_1CE4_E5B9);
+        z = (z ^ (z >> 27)).wrapping_mul(0x94D0_49BB_1331_11EB);
+        z ^ (z >> 31)
+    }
+
+    /// A number below `n`; `n` must not be 0.
+    pub fn below(&mut self, n: usize) -> usize {
+        (self.draw() % n as u64) as usize
+    }
+
+    /// A number from `low` to `high`, both included.
+    pub fn range(&mut self, low: usize, high: usize) -> usize {
+        low + self.below(high - low + 1)
+    }
+
+    pub fn chance(&mut self, percent: usize) -> bool {
+        self.below(100) < percent
+    }
+
+    pub fn pick<T: Clone>(&mut self, from: &[T]) -> T {
+        from[self.below(from.len())].clone()
+    }
+
+    pub fn shuffle<T>(&mut self, list: &mut [T]) {
+        for i in (1..list.len()).rev() {
+            list.swap(i, self.below(i + 1));
+        }
+    }
+
+    /// Some of the entries, order kept; how dense is drawn anew each time.
+    pub fn some_of<T: Clone>(&mut self, list: &[T]) -> Vec<T> {
+        let percent = self.pick(&[0, 10, 30, 60, 100]);
+        list.iter().filter(|_| self.chance(percent)).cloned().collect()
+    }
+}
+
+// ---------------------------------------------------------------- valid clusters
+
+#[derive(Clone, Copy, Debug, PartialEq, Eq)]
+pub enum Size {
+    Tiny,
+    Small,
+    Medium,
+    Large,
+}
+
+/// A cluster with none of the faults 1 to 9: the VMs and their targets come first, then nodes
+/// and constraints are drawn so that the target keeps to them.
+pub fn room(rng: &mut Rng, size: Size) -> Room {
+    let (n, v) = counts(rng, size);
+    let vms = vms_on_target(rng, n, v);
+    let mut room = Room { nodes: vec![Node { memory: 0, cpu: 0 }; n], vms, constraints: vec![] };
+    scatter(rng, &mut room);
+    size_nodes(rng, &mut room);
+    room.constraints = constraints(rng, &room, size);
+    room
+}
+
+fn counts(rng: &mut Rng, size: Size) -> (usize, usize) {
+    match size {
+        Size::Tiny => (rng.range(2, 4), rng.range(1, 6)),
+        Size::Small => (rng.range(1, 6), rng.range(0, 10)),
+        Size::Medium => (rng.range(1, 20), rng.range(0, 60)),
+        Size::Large => (rng.pick(&[1, 8, 32, 63, 64]), rng.pick(&[0, 64, 200, 255, 256])),
+    }
+}
+
+/// VMs already on their targets, so spread that no node's sums pass the largest capacity.
+fn vms_on_target(rng: &mut Rng, n: usize, v: usize) -> Vec<Vm> {
+    let style = rng.below(6);
+    let fewer_nodes = if rng.chance(40) { rng.range(1, n) } else { n };
+    let mut sums = vec![Sum::NOTHING; n];
+    let mut vms = Vec::new();
+    for _ in 0..v {
+        let (mut memory, mut cpu) = demand(rng, style);
+        let first = rng.below(fewer_nodes);
+        let takes = |node: usize, memory: u64, cpu: u64| {
+            sums[node].memory + memory <= MOST_MEMORY && sums[node].cpu + cpu <= MOST_CPU
+        };
+        let search = || (0..n).map(|i| (first + i) % n);
+        let mut node = search().find(|&node| takes(node, memory, cpu));
+        if node.is_none() {
+            (memory, cpu) = (1, 0);
+            node = search().find(|&node| takes(node, memory, cpu));
+        }
+        let Some(node) = node else { break };
+        let vm = Vm { memory, cpu, current: node, target: node };
+        sums[node] = sums[node].plus(&vm);
+        vms.push(vm);
+    }
+    vms
+}
+
+/// Memory and CPU of one VM.
+fn demand(rng: &mut Rng, style: usize) -> (u64, u64) {
+    let memory = match style {
+        0 => 1,
+        1 => rng.range(1, 4),
+        2 => rng.pick(&[256, 512, 1024, 2048]),
+        3 => rng.range(1, 60_000),
+        4 => rng.pick(&[1, 255, 256, 65_535, 65_536, 8_388_607, 16_777_214, 16_777_215]),
+        _ => rng.range(1, 9),
+    };
+    let cpu = match style {
+        0 => rng.below(2),
+        1 => rng.range(0, 3),
+        2 => rng.pick(&[0, 50, 100]),
+        3 => rng.range(0, 250),
+        4 => rng.pick(&[0, 0, 0, 1, 255, 256, 32_767, 65_535]),
+        _ => 0,
+    };
+    (memory as u64, cpu as u64)
+}
+
+/// Draws the current nodes.
+fn scatter(rng: &mut Rng, room: &mut Room) {
+    let n = room.nodes.len();
+    let heap = rng.below(n);
+    let turn = rng.below(n);
+    let mut mixed: Vec<usize> = room.vms.iter().map(|vm| vm.target).collect();
+    rng.shuffle(&mut mixed);
+    let style = rng.below(10);
+    for (vm, &shuffled) in room.vms.iter_mut().zip(&mixed) {
+        let target = vm.target;
+        vm.current = match style {
+            0 => target,
+            1 if rng.chance(80) => target,
+            2 => heap,
+            3 => (target + turn) % n,
+            4 | 5 if rng.chance(50) => target,
+            6..=8 => shuffled,
+            _ => rng.below(n),
+        };
+    }
+}
+
+/// Draws capacities that hold the target: just so, enough for start and target, or with room
+/// over. Memory and CPU are drawn apart, so that either may be the tight one.
+fn size_nodes(rng: &mut Rng, room: &mut Room) {
+    let start = Placement::current(room).sums;
+    let end = Placement::target(room).sums;
+    let most_memory = room.vms.iter().map(|vm| vm.memory).max().unwrap_or(0);
+    let most_cpu = room.vms.iter().map(|vm| vm.cpu).max().unwrap_or(0);
+    let (memory_style, cpu_style) = (rng.below(7), rng.pick(&[0, 1, 2, 3, 3, 4, 4, 4, 5, 6]));
+    for node in 0..room.nodes.len() {
+        let (first, last) = (start[node].memory, end[node].memory);
+        let memory = capacity(rng, memory_style, first, last, most_memory, MOST_MEMORY);
+        let (first, last) = (start[node].cpu, end[node].cpu);
+        let cpu = capacity(rng, cpu_style, first, last, most_cpu, MOST_CPU);
+        room.nodes[node] = Node { memory, cpu };
+    }
+    if !room.nodes.is_empty() && rng.chance(50) {
+        let spare = rng.below(room.nodes.len());
+        let node = &mut room.nodes[spare];
+        node.memory = (node.memory + most_memory).min(MOST_MEMORY);
+        node.cpu = (node.cpu + most_cpu).min(MOST_CPU);
+    }
+}
+
+fn capacity(rng: &mut Rng, style: usize, start: u64, end: u64, largest: u64, most: u64) -> u64 {
+    let both = start.max(end);
+    let wanted = match style {
+        0 => end,
+        1 => both,
+        2 => both + rng.below(largest as usize + 1) as u64,
+        3 => both + largest,
+        4 => most,
+        5 => both + rng.below(3) as u64,
+        _ => rng.pick(&[end, both, both + largest / 2, both + largest]),
+    };
+    wanted.min(most)
+}
+
+/// Constraints that the target keeps.
+fn constraints(rng: &mut Rng, room: &Room, size: Size) -> Vec<Constraint> {
+    let many = match size {
+        Size::Tiny | Size::Small => 6,
+        Size::Medium => 30,
+        Size::Large => 128,
+    };
+    let how_many = match rng.below(4) {
+        0 => 0,
+        1 => rng.range(1, 2),
+        2 => rng.range(1, 4),
+        _ => rng.range(0, many),
+    };
+    let one_kind = if rng.chance(30) { Some(rng.below(4)) } else { None };
+    (0..how_many)
+        .map(|_| match one_kind.unwrap_or_else(|| rng.below(4)) {
+            0 => ban(rng, room),
+            1 => fence(rng, room),
+            2 => spread(rng, room),
+            _ => latency(rng, room),
+        })
+        .collect()
+}
+
+fn some_vms(rng: &mut Rng, room: &Room) -> Vec<usize> {
+    let all: Vec<usize> = (0..room.vms.len()).collect();
+    rng.some_of(&all)
+}
+
+/// The nodes split into targets of these VMs and all others.
+fn targets_and_others(room: &Room, vms: &[usize]) -> (Vec<usize>, Vec<usize>) {
+    (0..room.nodes.len()).partition(|&node| vms.iter().any(|&vm| room.vms[vm].target == node))
+}
+
+fn ban(rng: &mut Rng, room: &Room) -> Constraint {
+    let vms = some_vms(rng, room);
+    let (_, others) = targets_and_others(room, &vms);
+    Constraint::Ban { vms, nodes: rng.some_of(&others) }
+}
+
+fn fence(rng: &mut Rng, room: &Room) -> Constraint {
+    let vms = some_vms(rng, room);
+    let (mut nodes, others) = targets_and_others(room, &vms);
+    nodes.extend(rng.some_of(&others));
+    nodes.sort();
+    Constraint::Fence { vms, nodes }
+}
+
+fn spread(rng: &mut Rng, room: &Room) -> Constraint {
+    let candidates = some_vms(rng, room);
+    spread_among(rng, room, candidates)
+}
+
+/// A spread over as many of these VMs as have targets apart.
+fn spread_among(rng: &mut Rng, room: &Room, mut candidates: Vec<usize>) -> Constraint {
+    rng.shuffle(&mut candidates);
+    let mut used = vec![false; room.nodes.len()];
+    candidates.retain(|&vm| !std::mem::replace(&mut used[room.vms[vm].target], true));
+    candidates.truncate(rng.range(2, 64));
+    candidates.sort();
+    Constraint::Spread { vms: candidates }
+}
+
+fn latency(rng: &mut Rng, room: &Room) -> Constraint {
+    let how_many = rng.pick(&[0, 1, 2, 3, 5, 64]);
+    let mut groups = vec![Vec::new(); how_many];
+    let percent = rng.pick(&[50, 90, 100]);
+    for node in 0..room.nodes.len() {
+        if how_many > 0 && rng.chance(percent) {
+            groups[rng.below(how_many)].push(node);
+        }
+    }
+    if groups.is_empty() {
+        return Constraint::Latency { vms: vec![], groups };
+    }
+    let chosen: Vec<usize> = rng.pick(&groups);
+    let vms = some_vms(rng, room);
+    let vms = vms.into_iter().filter(|&vm| chosen.contains(&room.vms[vm].target)).collect();
+    Constraint::Latency { vms, groups }
+}
+
+/// A knot: VMs that change places among nodes with next to nothing free, and a node or two beside
+/// them to step onto. Most need pivots; many block.
+pub fn knot(rng: &mut Rng, size: Size) -> Room {
+    let (n, v) = counts(rng, size);
+    let n = n.max(3);
+    let busy = n - rng.range(1, 2.min(n - 2));
+    let largest = rng.pick(&[1, 2, 2, 3, 6]);
+    let mut places: Vec<usize> = (0..v).map(|i| i % busy).collect();
+    rng.shuffle(&mut places);
+    let vm = |rng: &mut Rng, target: usize| {
+        let (memory, cpu) = (rng.range(1, largest) as u64, rng.below(3) as u64);
+        Vm { memory, cpu, current: target, target }
+    };
+    let vms: Vec<Vm> = places.iter().map(|&target| vm(rng, target)).collect();
+    let mut room = Room { nodes: vec![Node { memory: 0, cpu: 0 }; n], vms, constraints: vec![] };
+    rng.shuffle(&mut places);
+    let stay = rng.pick(&[0, 0, 20, 50]);
+    for (vm, &place) in room.vms.iter_mut().zip(&places) {
+        vm.current = if rng.chance(stay) { vm.target } else { place };
+    }
+    let (start, end) = (Placement::current(&room).sums, Placement::target(&room).sums);
+    let free = rng.pick(&[1, 1, 2, largest]);
+    let roomy_cpu = rng.chance(70);
+    for i in 0..n {
+        let memory = start[i].memory.max(end[i].memory) + rng.below(free) as u64;
+        let cpu = start[i].cpu.max(end[i].cpu) + if roomy_cpu { 9 } else { rng.below(2) as u64 };
+        room.nodes[i] = Node { memory, cpu };
+    }
+    for spare in &mut room.nodes[busy..] {
+        *spare = Node { memory: rng.range(1, largest) as u64, cpu: spare.cpu + 2 };
+    }
+    if rng.chance(40) {
+        room.constraints = constraints(rng, &room, Size::Tiny);
+    }
+    room
+}
+
+/// Nodes of the largest capacity, so that spreads, and a ban or fence at times, are what keeps
+/// VMs from moving all at once.
+pub fn apart(rng: &mut Rng, size: Size) -> Room {
+    let mut room = room(rng, size);
+    room.nodes.fill(Node { memory: MOST_MEMORY, cpu: MOST_CPU });
+    if rng.chance(60) {
+        room.constraints.clear();
+    }
+    for _ in 0..rng.range(1, 4) {
+        let all = (0..room.vms.len()).collect();
+        let wide = spread_among(rng, &room, all);
+        room.constraints.push(wide);
+    }
+    if rng.chance(20) {
+        room.constraints.push(ban(rng, &room));
+        room.constraints.push(fence(rng, &room));
+    }
+    room.constraints.truncate(128);
+    room
+}
+
+/// Pairs of VMs that change places, one pair after the other, each through the one spare node:
+/// a pivot and two direct steps a pair.
+pub fn swaps(pairs: usize) -> Room {
+    let (left, right, spare) = (0, 1, 2);
+    let forth = Vm { memory: 1, cpu: 1, current: left, target: right };
+    let back = Vm { memory: 1, cpu: 1, current: right, target: left };
+    let full = Node { memory: pairs as u64, cpu: pairs as u64 };
+    let mut nodes = vec![full; 3];
+    nodes[spare] = Node { memory: 1, cpu: 1 };
+    let vms = (0..2 * pairs).map(|i| if i < pairs { forth.clone() } else { back.clone() });
+    Room { nodes, vms: vms.collect(), constraints: vec![] }
+}
+
+/// A ring: every node but the last is full, and each VM's target is the next node. One pivot
+/// onto the last node opens it, and the rest follow one by one.
+pub fn ring(rng: &mut Rng, n: usize) -> Room {
+    let memory = rng.range(1, 100) as u64;
+    let vm = |i: usize| Vm { memory, cpu: 10, current: i, target: (i + 1) % (n - 1) };
+    Room {
+        nodes: vec![Node { memory, cpu: 10 }; n],
+        vms: (0..n - 1).map(vm).collect(),
+        constraints: vec![],
+    }
+}
+
+// ---------------------------------------------------------------- plans
+
+/// A plan for a room: the planner's own, that one spoilt, a detour that the planner then ends,
+/// or moves drawn blindly.
+pub fn plan(rng: &mut Rng, room: &Room) -> Vec<Step> {
+    let mut steps = match rng.below(10) {
+        0..=5 => make_steps(room).0,
+        6..=8 => detour(rng, room),
+        _ => (0..rng.below(4)).map(|_| blind_step(rng, room)).collect(),
+    };
+    if rng.chance(65) {
+        for _ in 0..rng.range(1, 3) {
+            spoil(rng, room, &mut steps);
+        }
+    }
+    if rng.chance(2) {
+        stretch(rng, room, &mut steps);
+    }
+    steps
+}
+
+/// Puts a sound step and its way back in front of a plan, so often that the plan comes near 512
+/// steps or 1,024 moves.
+fn stretch(rng: &mut Rng, room: &Room, steps: &mut Vec<Step>) {
+    let book = Book::of(room);
+    let here = Placement::current(room);
+    let there = random_sound_step(rng, room, &book, &here, 30);
+    let back: Step = there.iter().map(|m| Move { vm: m.vm, to: here.place[m.vm] }).collect();
+    let returns = step_fault(room, &book, &here.after(room, &there), &back).is_none();
+    if there.is_empty() || !returns {
+        return;
+    }
+    let moves: usize = steps.iter().map(Vec::len).sum();
+    let by_steps = 512usize.saturating_sub(steps.len()) / 2;
+    let by_moves = 1_024usize.saturating_sub(moves) / (2 * there.len());
+    for _ in 0..by_steps.min(by_moves) + rng.below(2) {
+        steps.splice(0..0, [there.clone(), back.clone()]);
+    }
+}
+
+/// Goes through the VMs and keeps each random move that leaves the step sound.
+fn random_sound_step(
+    rng: &mut Rng,
+    room: &Room,
+    book: &Book,
+    here: &Placement,
+    percent: usize,
+) -> Step {
+    let mut step = Vec::new();
+    for vm in 0..room.vms.len() {
+        if rng.chance(percent) {
+            step.push(Move { vm, to: rng.below(room.nodes.len()) });
+            if step_fault(room, book, here, &step).is_some() {
+                step.pop();
+            }
+        }
+    }
+    step
+}
+
+/// Random sound steps, then the planner's way home from there.
+fn detour(rng: &mut Rng, room: &Room) -> Vec<Step> {
+    let book = Book::of(room);
+    let mut here = Placement::current(room);
+    let mut steps = Vec::new();
+    for _ in 0..rng.range(1, 5) {
+        let percent = rng.pick(&[20, 50, 100]);
+        let step = random_sound_step(rng, room, &book, &here, percent);
+        if !step.is_empty() {
+            here = here.after(room, &step);
+            steps.push(step);
+        }
+    }
+    steps.extend(make_steps_from(room, here).0);
+    steps
+}
+
+/// VMs that rise and destinations that exist, drawn with no eye on the rules.
+fn blind_step(rng: &mut Rng, room: &Room) -> Step {
+    let n = room.nodes.len();
+    let mut vms = some_vms(rng, room);
+    if vms.is_empty() {
+        vms.push(rng.below(room.vms.len() + 1));
+    }
+    let away = |rng: &mut Rng, vm: usize| match room.vms.get(vm) {
+        Some(row) if n > 1 && rng.chance(95) => (row.current + rng.range(1, n - 1)) % n,
+        _ => rng.below(n),
+    };
+    vms.into_iter().map(|vm| Move { vm, to: away(rng, vm) }).collect()
+}
+
+/// Changes a plan in one place. Steps left empty go, as they would only be fault 14.
+pub fn spoil(rng: &mut Rng, room: &Room, steps: &mut Vec<Step>) {
+    match rng.below(24) {
+        0 | 1 => swap_moves(rng, steps),
+        2..=4 => merge_steps(rng, steps),
+        5 | 6 => split_step(rng, steps),
+        7 => on_a_step(rng, steps, |rng, step| {
+            step.remove(rng.below(step.len()));
+        }),
+        8 | 9 => extra_move(rng, room, steps),
+        10 => on_a_move(rng, steps, |rng, m| m.to = rng.below(room.nodes.len())),
+        11 => swap_steps(rng, steps),
+        12 => repeat_step(rng, steps),
+        13 => on_a_step(rng, steps, |_, step| step.reverse()),
+        14 => on_a_move(rng, steps, |rng, m| m.vm = rng.pick(&[room.vms.len(), 255, 0])),
+        15 => on_a_move(rng, steps, |rng, m| m.to = rng.pick(&[room.nodes.len(), 64, 255])),
+        16 => on_a_move(rng, steps, |_, m| m.to = room.vms.get(m.vm).map_or(0, |vm| vm.current)),
+        17 | 18 => to_a_closed_node(rng, room, steps),
+        19..=21 => to_a_mate(rng, room, steps),
+        22 => crowd(rng, room, steps),
+        _ => {
+            steps.pop();
+        }
+    }
+    steps.retain(|step| !step.is_empty());
+}
+
+fn on_a_step(rng: &mut Rng, steps: &mut [Step], change: impl Fn(&mut Rng, &mut Step)) {
+    if !steps.is_empty() {
+        let i = rng.below(steps.len());
+        change(rng, &mut steps[i]);
+    }
+}
+
+fn on_a_move(rng: &mut Rng, steps: &mut [Step], change: impl Fn(&mut Rng, &mut Move)) {
+    on_a_step(rng, steps, |rng, step| {
+        let i = rng.below(step.len());
+        change(rng, &mut step[i]);
+    });
+}
+
+/// Puts a move into a step where its VM's number belongs.
+fn insert(step: &mut Step, m: Move) {
+    let at = step.iter().position(|other| other.vm > m.vm).unwrap_or(step.len());
+    step.insert(at, m);
+}
+
+/// Two moves of different steps change places.
+fn swap_moves(rng: &mut Rng, steps: &mut [Step]) {
+    if steps.len() < 2 {
+        return;
+    }
+    let (a, b) = (rng.below(steps.len()), rng.below(steps.len()));
+    let (i, j) = (rng.below(steps[a].len()), rng.below(steps[b].len()));
+    if a != b {
+        let (first, second) = (steps[a].remove(i), steps[b].remove(j));
+        insert(&mut steps[a], second);
+        insert(&mut steps[b], first);
+    }
+}
+
+fn merge_steps(rng: &mut Rng, steps: &mut Vec<Step>) {
+    if steps.len() >= 2 {
+        let i = rng.below(steps.len() - 1);
+        let second = steps.remove(i + 1);
+        second.into_iter().for_each(|m| insert(&mut steps[i], m));
+    }
+}
+
+fn split_step(rng: &mut Rng, steps: &mut Vec<Step>) {
+    if !steps.is_empty() {
+        let i = rng.below(steps.len());
+        let at = rng.below(steps[i].len());
+        let back = steps[i].split_off(at);
+        steps.insert(i + 1, back);
+    }
+}
+
+fn swap_steps(rng: &mut Rng, steps: &mut [Step]) {
+    if steps.len() >= 2 {
+        let (a, b) = (rng.below(steps.len()), rng.below(steps.len()));
+        steps.swap(a, b);
+    }
+}
+
+fn repeat_step(rng: &mut Rng, steps: &mut Vec<Step>) {
+    if !steps.is_empty() {
+        let step = rng.pick(steps);
+        steps.insert(rng.below(steps.len() + 1), step);
+    }
+}
+
+/// Adds a move to a step, or as a step of its own.
+fn add_move(rng: &mut Rng, steps: &mut Vec<Step>, m: Move) {
+    if steps.is_empty() || rng.chance(50) {
+        steps.insert(rng.below(steps.len() + 1), vec![m]);
+    } else {
+        let i = rng.below(steps.len());
+        insert(&mut steps[i], m);
+    }
+}
+
+fn extra_move(rng: &mut Rng, room: &Room, steps: &mut Vec<Step>) {
+    if !room.vms.is_empty() {
+        let m = Move { vm: rng.below(room.vms.len()), to: rng.below(room.nodes.len()) };
+        add_move(rng, steps, m);
+    }
+}
+
+/// Sends a VM to a node that a ban or fence closes to it.
+fn to_a_closed_node(rng: &mut Rng, room: &Room, steps: &mut Vec<Step>) {
+    let mut vms: Vec<usize> = (0..room.vms.len()).collect();
+    rng.shuffle(&mut vms);
+    for vm in vms {
+        let closed: Vec<usize> =
+            (0..room.nodes.len()).filter(|&node| !may_go(room, vm, node)).collect();
+        if !closed.is_empty() {
+            let m = Move { vm, to: rng.pick(&closed) };
+            return add_move(rng, steps, m);
+        }
+    }
+}
+
+/// Sends a VM to where a spread mate starts or should end.
+fn to_a_mate(rng: &mut Rng, room: &Room, steps: &mut Vec<Step>) {
+    let mut vms: Vec<usize> = (0..room.vms.len()).collect();
+    rng.shuffle(&mut vms);
+    for vm in vms {
+        let mates = mates(room, vm);
+        if !mates.is_empty() {
+            let mate = &room.vms[rng.pick(&mates)];
+            let m = Move { vm, to: rng.pick(&[mate.current, mate.target]) };
+            if rng.chance(50) {
+                return steps.insert(0, vec![m]);
+            }
+            return add_move(rng, steps, m);
+        }
+    }
+}
+
+/// Sends a few more VMs of the first step to one node.
+fn crowd(rng: &mut Rng, room: &Room, steps: &mut [Step]) {
+    let to = rng.below(room.nodes.len());
+    if let Some(step) = steps.first_mut() {
+        for vm in 0..room.vms.len() {
+            let free = room.vms[vm].current != to && step.iter().all(|m| m.vm != vm);
+            if free && rng.chance(30) {
+                insert(step, Move { vm, to });
+            }
+        }
+    }
+}
+
+// ---------------------------------------------------------------- damage to records
+
+/// Damages the rows or the target: faults 6, 8 and 9.
+pub fn damage_room(rng: &mut Rng, room: &mut Room) {
+    let n = room.nodes.len();
+    if room.vms.is_empty() {
+        return;
+    }
+    let i = rng.below(room.vms.len());
+    let target = room.vms[i].target;
+    let held = Placement::target(room).sums[target];
+    match rng.below(10) {
+        0 => room.vms[i].memory = 0,
+        1 => room.vms[i].current = rng.pick(&[n, n + 1, 255]),
+        2 => room.vms[i].target = rng.pick(&[n, n + 1, 255]),
+        3 => room.nodes[target].memory = held.memory - 1,
+        4 => room.nodes[target].cpu = held.cpu.saturating_sub(1),
+        5 => room.constraints.push(Constraint::Ban { vms: vec![i], nodes: vec![target] }),
+        6 => room.constraints.push(Constraint::Fence { vms: vec![i], nodes: vec![] }),
+        7 => room.constraints.push(fence_elsewhere(n, i, target)),
+        8 => room.constraints.push(Constraint::Latency { vms: vec![i], groups: vec![vec![]] }),
+        _ => spread_on_one_target(rng, room),
+    }
+    room.constraints.truncate(128);
+}
+
+fn fence_elsewhere(n: usize, vm: usize, target: usize) -> Constraint {
+    Constraint::Fence { vms: vec![vm], nodes: (0..n).filter(|&node| node != target).collect() }
+}
+
+/// Adds a spread over VMs of one target node, or a latency over VMs of two groups.
+fn spread_on_one_target(rng: &mut Rng, room: &mut Room) {
+    let target = room.vms[rng.below(room.vms.len())].target;
+    let (there, away): (Vec<usize>, Vec<usize>) =
+        (0..room.vms.len()).partition(|&vm| room.vms[vm].target == target);
+    if there.len() >= 2 && rng.chance(60) {
+        room.constraints.push(Constraint::Spread { vms: there });
+    } else if !away.is_empty() {
+        let others = (0..room.nodes.len()).filter(|&node| node != target).collect();
+        let vms = (0..room.vms.len()).collect();
+        room.constraints.push(Constraint::Latency { vms, groups: vec![vec![target], others] });
+    }
+}
+
+/// Damages one constraint's bytes, or adds a bad one: fault 7.
+pub fn damage_bodies(rng: &mut Rng, room: &Room, bodies: &mut Vec<Vec<u8>>) {
+    if bodies.is_empty() || (bodies.len() < 128 && rng.chance(40)) {
+        let body = bad_body(rng, room);
+        bodies.insert(rng.below(bodies.len() + 1), body);
+        return;
+    }
+    let i = rng.below(bodies.len());
+    let body = &mut bodies[i];
+    let at = rng.below(body.len());
+    match rng.below(8) {
+        0 => body.clear(),
+        1 => body[0] = rng.pick(&[0, 5, 255]),
+        2 => body.push(rng.pick(&[0, 255])),
+        3 => cut(body),
+        4 => body[at] = body[at].wrapping_add(1),
+        5 => body[at] = body[at].wrapping_sub(1),
+        6 => body[at] = rng.draw() as u8,
+        _ => {
+            body.remove(at);
+        }
+    }
+}
+
+/// A constraint with one thing wrong.
+fn bad_body(rng: &mut Rng, room: &Room) -> Vec<u8> {
+    let n = room.nodes.len() as u8;
+    let v = room.vms.len().min(255) as u8;
+    let node = rng.below(room.nodes.len()) as u8;
+    let choices: [Vec<u8>; 14] = [
+        vec![],
+        vec![0, 0, 0],
+        vec![5, 0, 0],
+        vec![3],
+        vec![3, 0, 0, 0],
+        vec![3, 0, 1, v],
+        vec![3, 0, 2, 0, 0],
+        vec![3, 1, 0],
+        vec![1, 0, 0],
+        vec![1, 0, 0, 1, n],
+        vec![2, 0, 0, 2, node, node],
+        vec![4, 0, 0, 1],
+        vec![4, 0, 0, 2, 1, node, 1, node],
+        [vec![4, 0, 0, 65], vec![0; 65]].concat(),
+    ];
+    rng.pick(&choices)
+}
+
+/// Damages a cluster record's bytes: faults 1 to 5, and now and then any other.
+pub fn damage_cluster(rng: &mut Rng, bytes: &mut Vec<u8>) {
+    let n = usize::from(bytes[5]) * 256 + usize::from(bytes[6]);
+    let v = usize::from(bytes[7]) * 256 + usize::from(bytes[8]);
+    let constraints_at = CLUSTER_HEADER + NODE_ROW * n + VM_ROW * v;
+    match rng.below(16) {
+        0 => bytes.truncate(rng.pick(&[0, 1, 5, 9, 10])),
+        1 => bytes[0] = rng.pick(&[0, 2, 255]),
+        2 => bytes[4] = bytes[4].wrapping_add(rng.pick(&[1, 255])),
+        3 => bytes[rng.pick(&[1, 2])] = rng.pick(&[1, 128, 255]),
+        4 => bytes.push(0),
+        5 => cut(bytes),
+        6 => bytes[5..7].copy_from_slice(&rng.pick(&[[0, 0], [0, 65], [1, 0], [1, 1]])),
+        7 => bytes[7..9].copy_from_slice(&rng.pick(&[[1, 1], [2, 0], [255, 255]])),
+        8 => bytes[9..11].copy_from_slice(&rng.pick(&[[0, 129], [1, 0], [255, 255]])),
+        9 => {
+            let at = rng.pick(&[6, 8, 10]);
+            bytes[at] = bytes[at].wrapping_add(rng.pick(&[1, 255]));
+        }
+        10 => {
+            bytes.push(0);
+            state_length(bytes);
+        }
+        11 => cut_and_state(rng, bytes, CLUSTER_HEADER),
+        12 if constraints_at + 1 < bytes.len() => {
+            let at = rng.pick(&[constraints_at, constraints_at + 1]);
+            bytes[at] = bytes[at].wrapping_add(rng.pick(&[1, 255]));
+        }
+        13 => bytes.truncate(CLUSTER_HEADER),
+        14 => {
+            bytes.resize(rng.pick(&[65_535, 65_536, 70_000]), 0);
+            state_length(bytes);
+        }
+        _ => flip(rng, bytes),
+    }
+}
+
+/// Cuts bytes off the end, not into the header, and states the new length.
+fn cut_and_state(rng: &mut Rng, bytes: &mut Vec<u8>, header: usize) {
+    let most = bytes.len() - header;
+    if most > 0 {
+        let cut = if rng.chance(60) { 1 } else { rng.range(1, most) };
+        bytes.truncate(bytes.len() - cut);
+        state_length(bytes);
+    }
+}
+
+/// Takes the last byte off.
+fn cut(bytes: &mut Vec<u8>) {
+    bytes.pop();
+}
+
+fn flip(rng: &mut Rng, bytes: &mut [u8]) {
+    if !bytes.is_empty() {
+        let at = rng.below(bytes.len());
+        bytes[at] ^= 1 << rng.below(8);
+    }
+}
+
+/// Damages a plan record's bytes: faults 11 to 14, and now and then any other.
+pub fn damage_plan(rng: &mut Rng, bytes: &mut Vec<u8>) {
+    let step_at = PLAN_HEADER;
+    match rng.below(15) {
+        0 => bytes.truncate(rng.pick(&[0, 1, 5, 6])),
+        1 => bytes[0] = rng.pick(&[0, 2, 255]),
+        2 => bytes[4] = bytes[4].wrapping_add(rng.pick(&[1, 255])),
+        3 => bytes[rng.pick(&[1, 2])] = rng.pick(&[1, 128, 255]),
+        4 => bytes.push(0),
+        5 => cut(bytes),
+        6 => bytes[6] = bytes[6].wrapping_add(rng.pick(&[1, 255])),
+        7 => bytes[5..7].copy_from_slice(&rng.pick(&[[2, 0], [2, 1], [255, 255]])),
+        8 => {
+            bytes.push(0);
+            state_length(bytes);
+        }
+        9 => cut_and_state(rng, bytes, PLAN_HEADER),
+        10 if bytes.len() > step_at + 1 => {
+            let count = rng.pick(&[[0, 0], [1, 0], [1, 1], [255, 255]]);
+            bytes[step_at..step_at + 2].copy_from_slice(&count);
+        }
+        11 if bytes.len() > step_at + 1 => {
+            bytes[step_at + 1] = bytes[step_at + 1].wrapping_add(rng.pick(&[1, 255]));
+        }
+        12 => {
+            bytes[6] = bytes[6].wrapping_add(1);
+            bytes.extend([0, 0]);
+            state_length(bytes);
+        }
+        _ => flip(rng, bytes),
+    }
+}
+
+// ---------------------------------------------------------------- whole inputs
+
+/// One input for the checker (cluster and plan) and the planner (cluster and buffer length).
+#[derive(Clone, Debug)]
+pub struct Case {
+    pub cluster: Vec<u8>,
+    pub plan: Vec<u8>,
+    pub buffer: usize,
+}
+
+/// Many inputs from one seed.
+pub fn cases(seed: u64, how_many: usize) -> impl Iterator<Item = Case> {
+    let mut rng = Rng::new(seed);
+    (0..how_many).map(move |_| case(&mut rng))
+}
+
+/// An input of a random size, whole or damaged.
+pub fn case(rng: &mut Rng) -> Case {
+    let size = match rng.below(100) {
+        0..=44 => Size::Tiny,
+        45..=84 => Size::Small,
+        85..=97 => Size::Medium,
+        _ => Size::Large,
+    };
+    sized_case(rng, size)
+}
+
+/// An input of a given size. Damage may come on several layers at once, so that the order of
+/// the tests shows.
+pub fn sized_case(rng: &mut Rng, size: Size) -> Case {
+    let mut room = match rng.below(100) {
+        0..=2 => {
+            let n = rng.range(3, 12);
+            ring(rng, n)
+        }
+        3..=34 => knot(rng, size),
+        35..=54 => apart(rng, size),
+        55 => swaps(rng.range(1, 6)),
+        _ => room(rng, size),
+    };
+    let plan = plan_case(rng, &room);
+    let damaged = rng.chance(30);
+    if damaged && rng.chance(45) {
+        damage_room(rng, &mut room);
+    }
+    let mut bodies: Vec<Vec<u8>> = room.constraints.iter().map(constraint_body).collect();
+    if damaged && rng.chance(35) {
+        damage_bodies(rng, &room, &mut bodies);
+    }
+    let mut cluster = cluster_bytes_with(&room, &bodies);
+    if damaged && rng.chance(45) {
+        damage_cluster(rng, &mut cluster);
+    }
+    let buffer = match rng.below(20) {
+        0 => BUFFER - 1,
+        1 => rng.below(BUFFER),
+        2 => 4_096,
+        3 => BUFFER + 1,
+        _ => BUFFER,
+    };
+    Case { cluster, plan, buffer }
+}
+
+/// A plan record for a room, now and then damaged.
+fn plan_case(rng: &mut Rng, room: &Room) -> Vec<u8> {
+    let mut bytes = plan_bytes(&plan(rng, room));
+    if rng.chance(15) {
+        damage_plan(rng, &mut bytes);
+    }
+    bytes
+}

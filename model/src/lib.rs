@@ -1,0 +1,18 @@
+//! A plain reference model of document 01, written from that text alone.
+//!
+//! It favours being obviously right over being fast. Differential tests hold it beside the
+//! verified implementation; nothing here is shared with that implementation.
+
+pub mod edges;
+pub mod gen;
+pub mod orders;
+pub mod pack;
+pub mod planner;
+pub mod records;
+pub mod rules;
+
+pub use pack::{pack_answer, pack_verdict};
+pub use planner::{build, Answer};
+pub use records::{cluster_bytes, parse_cluster, parse_plan, plan_bytes};
+pub use records::{Constraint, Move, Node, Room, Step, Vm};
+pub use rules::{check, Verdict};

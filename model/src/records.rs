@@ -1,0 +1,306 @@
+//! The two records: their layout, and the faults 1 to 7 and 11 to 14 in checking order.
+
+/// What a node has to give.
+#[derive(Clone, Debug, PartialEq, Eq)]
+pub struct Node {
+    pub memory: u64,
+    pub cpu: u64,
+}
+
+/// What a VM needs, where the record says it is, and where it should end.
+#[derive(Clone, Debug, PartialEq, Eq)]
+pub struct Vm {
+    pub memory: u64,
+    pub cpu: u64,
+    pub current: usize,
+    pub target: usize,
+}
+
+/// The four kinds of constraint.
+#[derive(Clone, Debug, PartialEq, Eq)]
+pub enum Constraint {
+    Ban { vms: Vec<usize>, nodes: Vec<usize> },
+    Fence { vms: Vec<usize>, nodes: Vec<usize> },
+    Spread { vms: Vec<usize> },
+    Latency { vms: Vec<usize>, groups: Vec<Vec<usize>> },
+}
+
+/// A cluster record, read.
+#[derive(Clone, Debug, PartialEq, Eq)]
+pub struct Room {
+    pub nodes: Vec<Node>,
+    pub vms: Vec<Vm>,
+    pub constraints: Vec<Constraint>,
+}
+
+/// One move of a plan: which VM, and where it goes.
+#[derive(Clone, Copy, Debug, PartialEq, Eq)]
+pub struct Move {
+    pub vm: usize,
+    pub to: usize,
+}
+
+/// One step of a plan.
+pub type Step = Vec<Move>;
+
+pub const CLUSTER_HEADER: usize = 11;
+pub const PLAN_HEADER: usize = 7;
+pub const NODE_ROW: usize = 5;
+pub const VM_ROW: usize = 7;
+
+// ---------------------------------------------------------------- reading
+
+/// A big-endian number of up to four bytes.
+fn number(bytes: &[u8]) -> u64 {
+    bytes.iter().fold(0, |n, &b| n * 256 + u64::from(b))
+}
+
+/// A big-endian number used as a count or a length.
+fn count(bytes: &[u8]) -> usize {
+    number(bytes) as usize
+}
+
+/// Reads a cluster record; the error is the refusal number, 1 to 7.
+pub fn parse_cluster(bytes: &[u8]) -> Result<Room, u8> {
+    if bytes.len() < CLUSTER_HEADER {
+        return Err(1);
+    }
+    if bytes[0] != 1 {
+        return Err(2);
+    }
+    let stated = count(&bytes[1..5]);
+    if stated != bytes.len() || stated > 65_535 {
+        return Err(3);
+    }
+    let n = count(&bytes[5..7]);
+    let v = count(&bytes[7..9]);
+    let c = count(&bytes[9..11]);
+    if !(1..=64).contains(&n) || v > 256 || c > 128 {
+        return Err(4);
+    }
+    let vms_at = CLUSTER_HEADER + NODE_ROW * n;
+    let constraints_at = vms_at + VM_ROW * v;
+    let bodies = split_constraints(bytes, constraints_at, c).ok_or(5)?;
+
+    let nodes = bytes[CLUSTER_HEADER..vms_at].chunks(NODE_ROW).map(read_node);
+    let vms: Vec<Vm> = bytes[vms_at..constraints_at].chunks(VM_ROW).map(read_vm).collect();
+    if vms.iter().any(|vm| vm.memory == 0 || vm.current >= n || vm.target >= n) {
+        return Err(6);
+    }
+    let constraints: Option<Vec<Constraint>> =
+        bodies.iter().map(|body| read_constraint(body, v, n)).collect();
+    Ok(Room { nodes: nodes.collect(), vms, constraints: constraints.ok_or(7)? })
+}
+
+/// Cuts the constraints apart by their stated lengths alone. `None` if the rows or the
+/// constraints pass the end, or leave bytes over (fault 5).
+fn split_constraints(bytes: &[u8], start: usize, how_many: usize) -> Option<Vec<&[u8]>> {
+    let mut rest = bytes.get(start..)?;
+    let mut bodies = Vec::new();
+    for _ in 0..how_many {
+        let length = count(rest.get(..2)?);
+        bodies.push(rest.get(2..2 + length)?);
+        rest = &rest[2 + length..];
+    }
+    rest.is_empty().then_some(bodies)
+}
+
+fn read_node(row: &[u8]) -> Node {
+    Node { memory: number(&row[0..3]), cpu: number(&row[3..5]) }
+}
+
+fn read_vm(row: &[u8]) -> Vm {
+    Vm {
+        memory: number(&row[0..3]),
+        cpu: number(&row[3..5]),
+        current: usize::from(row[5]),
+        target: usize::from(row[6]),
+    }
+}
+
+/// Reads one constraint within its own bytes. `None` is fault 7.
+fn read_constraint(body: &[u8], v: usize, n: usize) -> Option<Constraint> {
+    let mut rest = body;
+    let constraint = match take(&mut rest, 1)?[0] {
+        1 => Constraint::Ban { vms: vm_list(&mut rest, v)?, nodes: node_list(&mut rest, n)? },
+        2 => Constraint::Fence { vms: vm_list(&mut rest, v)?, nodes: node_list(&mut rest, n)? },
+        3 => Constraint::Spread { vms: vm_list(&mut rest, v)? },
+        4 => Constraint::Latency { vms: vm_list(&mut rest, v)?, groups: groups(&mut rest, n)? },
+        _ => return None,
+    };
+    rest.is_empty().then_some(constraint)
+}
+
+/// The next bytes of a constraint, if it has that many left.
+fn take<'a>(rest: &mut &'a [u8], length: usize) -> Option<&'a [u8]> {
+    if rest.len() < length {
+        return None;
+    }
+    let (front, back) = rest.split_at(length);
+    *rest = back;
+    Some(front)
+}
+
+/// A VM list: a two-byte count, then VMs.
+fn vm_list(rest: &mut &[u8], v: usize) -> Option<Vec<usize>> {
+    let length = count(take(rest, 2)?);
+    rising(take(rest, length)?, v)
+}
+
+/// A node list: a one-byte count, then nodes.
+fn node_list(rest: &mut &[u8], n: usize) -> Option<Vec<usize>> {
+    let length = count(take(rest, 1)?);
+    rising(take(rest, length)?, n)
+}
+
+/// List entries, each below the limit and above the one before it.
+fn rising(entries: &[u8], limit: usize) -> Option<Vec<usize>> {
+    let list: Vec<usize> = entries.iter().map(|&e| usize::from(e)).collect();
+    let rises = list.windows(2).all(|pair| pair[0] < pair[1]);
+    let in_range = list.iter().all(|&e| e < limit);
+    (rises && in_range).then_some(list)
+}
+
+/// The groups of a latency constraint: at most 64, and no node in two of them.
+fn groups(rest: &mut &[u8], n: usize) -> Option<Vec<Vec<usize>>> {
+    let how_many = count(take(rest, 1)?);
+    if how_many > 64 {
+        return None;
+    }
+    let mut taken = vec![false; n];
+    let mut groups = Vec::new();
+    for _ in 0..how_many {
+        let group = node_list(rest, n)?;
+        for &node in &group {
+            if taken[node] {
+                return None;
+            }
+            taken[node] = true;
+        }
+        groups.push(group);
+    }
+    Some(groups)
+}
+
+/// Reads a plan record; the error is the refusal number, 11 to 14. This is shape only: whether
+/// VMs and nodes exist, and whether VMs rise, is left to the rules (fault 15).
+pub fn parse_plan(bytes: &[u8]) -> Result<Vec<Step>, u8> {
+    if bytes.len() < PLAN_HEADER {
+        return Err(11);
+    }
+    if bytes[0] != 1 {
+        return Err(12);
+    }
+    if count(&bytes[1..5]) != bytes.len() {
+        return Err(13);
+    }
+    read_steps(&bytes[PLAN_HEADER..], count(&bytes[5..7])).ok_or(14)
+}
+
+/// All steps of a plan. `None` is fault 14.
+fn read_steps(mut rest: &[u8], how_many: usize) -> Option<Vec<Step>> {
+    if how_many > 512 {
+        return None;
+    }
+    let mut steps = Vec::new();
+    let mut moves_in_all = 0;
+    for _ in 0..how_many {
+        let moves = count(take(&mut rest, 2)?);
+        if !(1..=256).contains(&moves) {
+            return None;
+        }
+        moves_in_all += moves;
+        if moves_in_all > 1_024 {
+            return None;
+        }
+        let rows = take(&mut rest, 2 * moves)?.chunks(2);
+        steps.push(rows.map(|r| Move { vm: usize::from(r[0]), to: usize::from(r[1]) }).collect());
+    }
+    rest.is_empty().then_some(steps)
+}
+
+// ---------------------------------------------------------------- writing
+
+/// The low `width` bytes of a number, highest first.
+fn put(bytes: &mut Vec<u8>, value: u64, width: usize) {
+    bytes.extend_from_slice(&value.to_be_bytes()[8 - width..]);
+}
+
+/// Writes a plan record. It tests nothing, so that generators may write faulty ones.
+pub fn plan_bytes(steps: &[Step]) -> Vec<u8> {
+    let length = PLAN_HEADER + steps.iter().map(|s| 2 + 2 * s.len()).sum::<usize>();
+    let mut bytes = vec![1];
+    put(&mut bytes, length as u64, 4);
+    put(&mut bytes, steps.len() as u64, 2);
+    for step in steps {
+        put(&mut bytes, step.len() as u64, 2);
+        for m in step {
+            bytes.push(m.vm as u8);
+            bytes.push(m.to as u8);
+        }
+    }
+    bytes
+}
+
+/// Writes a cluster record. It tests nothing, so that generators may write faulty ones.
+pub fn cluster_bytes(room: &Room) -> Vec<u8> {
+    let bodies: Vec<Vec<u8>> = room.constraints.iter().map(constraint_body).collect();
+    cluster_bytes_with(room, &bodies)
+}
+
+/// As `cluster_bytes`, with the constraints given as raw bytes behind their length fields.
+pub fn cluster_bytes_with(room: &Room, bodies: &[Vec<u8>]) -> Vec<u8> {
+    let mut bytes = vec![1, 0, 0, 0, 0];
+    put(&mut bytes, room.nodes.len() as u64, 2);
+    put(&mut bytes, room.vms.len() as u64, 2);
+    put(&mut bytes, bodies.len() as u64, 2);
+    for node in &room.nodes {
+        put(&mut bytes, node.memory, 3);
+        put(&mut bytes, node.cpu, 2);
+    }
+    for vm in &room.vms {
+        put(&mut bytes, vm.memory, 3);
+        put(&mut bytes, vm.cpu, 2);
+        bytes.push(vm.current as u8);
+        bytes.push(vm.target as u8);
+    }
+    for body in bodies {
+        put(&mut bytes, body.len() as u64, 2);
+        bytes.extend_from_slice(body);
+    }
+    state_length(&mut bytes);
+    bytes
+}
+
+/// Sets a record's length field to the bytes it has.
+pub fn state_length(record: &mut [u8]) {
+    let length = (record.len() as u32).to_be_bytes();
+    record[1..5].copy_from_slice(&length);
+}
+
+/// The bytes of a constraint behind its length field.
+pub fn constraint_body(constraint: &Constraint) -> Vec<u8> {
+    match constraint {
+        Constraint::Ban { vms, nodes } => [vec![1], vm_bytes(vms), node_bytes(nodes)].concat(),
+        Constraint::Fence { vms, nodes } => [vec![2], vm_bytes(vms), node_bytes(nodes)].concat(),
+        Constraint::Spread { vms } => [vec![3], vm_bytes(vms)].concat(),
+        Constraint::Latency { vms, groups } => {
+            let mut body = [vec![4], vm_bytes(vms), vec![groups.len() as u8]].concat();
+            groups.iter().for_each(|group| body.extend(node_bytes(group)));
+            body
+        }
+    }
+}
+
+fn vm_bytes(vms: &[usize]) -> Vec<u8> {
+    let mut bytes = Vec::new();
+    put(&mut bytes, vms.len() as u64, 2);
+    bytes.extend(vms.iter().map(|&vm| vm as u8));
+    bytes
+}
+
+fn node_bytes(nodes: &[usize]) -> Vec<u8> {
+    let mut bytes = vec![nodes.len() as u8];
+    bytes.extend(nodes.iter().map(|&node| node as u8));
+    bytes
+}

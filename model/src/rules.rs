@@ -1,0 +1,262 @@
+//! The rules: where VMs are, what nodes hold, what the target and each step may not do, what a
+//! plan costs, and the checker that puts all of this together.
+
+use crate::records::{parse_cluster, parse_plan, Constraint, Move, Room, Step, Vm};
+
+/// What the checker says.
+#[derive(Clone, Copy, Debug, PartialEq, Eq)]
+pub enum Verdict {
+    Accepted { cost: u64 },
+    Refused { number: u8, step: u16 },
+}
+
+// ---------------------------------------------------------------- placements and sums
+
+/// Memory and CPU summed over some VMs.
+#[derive(Clone, Copy, Debug, PartialEq, Eq)]
+pub struct Sum {
+    pub memory: u64,
+    pub cpu: u64,
+}
+
+impl Sum {
+    pub const NOTHING: Sum = Sum { memory: 0, cpu: 0 };
+
+    pub fn plus(self, vm: &Vm) -> Sum {
+        Sum { memory: self.memory + vm.memory, cpu: self.cpu + vm.cpu }
+    }
+
+    pub fn minus(self, vm: &Vm) -> Sum {
+        Sum { memory: self.memory - vm.memory, cpu: self.cpu - vm.cpu }
+    }
+}
+
+/// Where each VM is between steps, with each node's sum kept beside it.
+#[derive(Clone, Debug, PartialEq, Eq)]
+pub struct Placement {
+    pub place: Vec<usize>,
+    pub sums: Vec<Sum>,
+}
+
+impl Placement {
+    /// A placement with its sums counted afresh.
+    pub fn of(room: &Room, place: Vec<usize>) -> Placement {
+        let mut sums = vec![Sum::NOTHING; room.nodes.len()];
+        for (vm, &node) in room.vms.iter().zip(&place) {
+            sums[node] = sums[node].plus(vm);
+        }
+        Placement { place, sums }
+    }
+
+    pub fn current(room: &Room) -> Placement {
+        Placement::of(room, room.vms.iter().map(|vm| vm.current).collect())
+    }
+
+    pub fn target(room: &Room) -> Placement {
+        Placement::of(room, room.vms.iter().map(|vm| vm.target).collect())
+    }
+
+    /// The placement a step leaves: its VMs on their destinations, all others where they were.
+    pub fn after(&self, room: &Room, step: &[Move]) -> Placement {
+        let mut next = self.clone();
+        for m in step {
+            let vm = &room.vms[m.vm];
+            let from = next.place[m.vm];
+            next.sums[from] = next.sums[from].minus(vm);
+            next.sums[m.to] = next.sums[m.to].plus(vm);
+            next.place[m.vm] = m.to;
+        }
+        next
+    }
+
+    /// The VMs not on their targets, by number.
+    pub fn out_of_place(&self, room: &Room) -> Vec<usize> {
+        (0..room.vms.len()).filter(|&vm| self.place[vm] != room.vms[vm].target).collect()
+    }
+}
+
+/// Whether a node has enough for a sum; just enough is enough.
+pub fn within(room: &Room, node: usize, sum: Sum) -> bool {
+    sum.memory <= room.nodes[node].memory && sum.cpu <= room.nodes[node].cpu
+}
+
+// ---------------------------------------------------------------- constraints
+
+/// What ban, fence and spread say, looked up once: the nodes each VM may go to, and its mates.
+#[derive(Clone, Debug)]
+pub struct Book {
+    pub may_go: Vec<Vec<bool>>,
+    pub mates: Vec<Vec<usize>>,
+}
+
+impl Book {
+    pub fn of(room: &Room) -> Book {
+        let vms = 0..room.vms.len();
+        let nodes = 0..room.nodes.len();
+        Book {
+            may_go: vms
+                .clone()
+                .map(|vm| nodes.clone().map(|node| may_go(room, vm, node)).collect())
+                .collect(),
+            mates: vms.map(|vm| mates(room, vm)).collect(),
+        }
+    }
+}
+
+/// Whether no ban on this VM names the node and every fence around it does.
+pub fn may_go(room: &Room, vm: usize, node: usize) -> bool {
+    room.constraints.iter().all(|constraint| match constraint {
+        Constraint::Ban { vms, nodes } => !(vms.contains(&vm) && nodes.contains(&node)),
+        Constraint::Fence { vms, nodes } => !vms.contains(&vm) || nodes.contains(&node),
+        _ => true,
+    })
+}
+
+/// The other VMs that stand with this one in some spread. Spreads do not merge.
+pub fn mates(room: &Room, vm: usize) -> Vec<usize> {
+    let mut is_mate = vec![false; room.vms.len()];
+    for constraint in &room.constraints {
+        if let Constraint::Spread { vms } = constraint {
+            if vms.contains(&vm) {
+                vms.iter().for_each(|&other| is_mate[other] = true);
+            }
+        }
+    }
+    (0..room.vms.len()).filter(|&other| other != vm && is_mate[other]).collect()
+}
+
+/// Whether the targets keep one constraint. All listed VMs count, moved or not.
+fn target_keeps(room: &Room, constraint: &Constraint) -> bool {
+    let target = |vm: &usize| room.vms[*vm].target;
+    match constraint {
+        Constraint::Ban { vms, nodes } => vms.iter().all(|vm| !nodes.contains(&target(vm))),
+        Constraint::Fence { vms, nodes } => vms.iter().all(|vm| nodes.contains(&target(vm))),
+        Constraint::Spread { vms } => {
+            vms.iter().all(|a| vms.iter().all(|b| a == b || target(a) != target(b)))
+        }
+        Constraint::Latency { vms, groups } => {
+            vms.is_empty()
+                || groups.iter().any(|group| vms.iter().all(|vm| group.contains(&target(vm))))
+        }
+    }
+}
+
+/// Faults 8 and 9, both about the target.
+pub fn target_fault(room: &Room) -> Option<u8> {
+    let sums = Placement::target(room).sums;
+    if sums.iter().enumerate().any(|(node, &sum)| !within(room, node, sum)) {
+        return Some(8);
+    }
+    if !room.constraints.iter().all(|constraint| target_keeps(room, constraint)) {
+        return Some(9);
+    }
+    None
+}
+
+/// Reads a cluster record and tests its target: faults 1 to 9.
+pub fn accepted_cluster(bytes: &[u8]) -> Result<Room, u8> {
+    let room = parse_cluster(bytes)?;
+    match target_fault(&room) {
+        Some(number) => Err(number),
+        None => Ok(room),
+    }
+}
+
+// ---------------------------------------------------------------- steps
+
+/// The fault of a step, if any. The number decides, not the move: each test runs over all the
+/// moves before the next test starts.
+pub fn step_fault(room: &Room, book: &Book, start: &Placement, step: &[Move]) -> Option<u8> {
+    if misnamed(room, start, step) {
+        return Some(15);
+    }
+    if step.iter().any(|m| !book.may_go[m.vm][m.to]) {
+        return Some(16);
+    }
+    if misfits(room, start, step) {
+        return Some(17);
+    }
+    if meets_mate(book, start, step) {
+        return Some(18);
+    }
+    None
+}
+
+/// Fault 15: an unknown VM or node, VMs that do not rise, or a move to where the VM already is.
+pub fn misnamed(room: &Room, start: &Placement, step: &[Move]) -> bool {
+    let rises = step.windows(2).all(|pair| pair[0].vm < pair[1].vm);
+    let known = |m: &Move| m.vm < room.vms.len() && m.to < room.nodes.len();
+    !rises || !step.iter().all(|m| known(m) && m.to != start.place[m.vm])
+}
+
+/// Fault 17 in closed form: the worst order begins all moves before any ends, so a destination
+/// carries all it held at the start and all that arrive there in the step.
+pub fn misfits(room: &Room, start: &Placement, step: &[Move]) -> bool {
+    step.iter().any(|m| {
+        let arrivals = step.iter().filter(|other| other.to == m.to);
+        let worst = arrivals.fold(start.sums[m.to], |sum, other| sum.plus(&room.vms[other.vm]));
+        !within(room, m.to, worst)
+    })
+}
+
+/// Fault 18 in closed form: a mate is on the destination at the start, even if it leaves in this
+/// step, or arrives there in this step.
+pub fn meets_mate(book: &Book, start: &Placement, step: &[Move]) -> bool {
+    step.iter().any(|m| {
+        book.mates[m.vm].iter().any(|&mate| {
+            start.place[mate] == m.to || step.iter().any(|o| o.vm == mate && o.to == m.to)
+        })
+    })
+}
+
+// ---------------------------------------------------------------- cost
+
+/// What a step costs: the largest memory it moves.
+pub fn step_cost(room: &Room, step: &[Move]) -> u64 {
+    step.iter().map(|m| room.vms[m.vm].memory).max().unwrap_or(0)
+}
+
+/// What a plan costs: each move pays its VM's memory and the cost of every earlier step.
+pub fn plan_cost(room: &Room, steps: &[Step]) -> u64 {
+    let mut earlier_steps = 0;
+    let mut cost = 0;
+    for step in steps {
+        for m in step {
+            cost += room.vms[m.vm].memory + earlier_steps;
+        }
+        earlier_steps += step_cost(room, step);
+    }
+    cost
+}
+
+// ---------------------------------------------------------------- the checker
+
+/// Checks a plan for a cluster: 1 to 9, then 11 to 14 over the whole plan, then each step in
+/// turn by 15 to 18, then 19.
+pub fn check(cluster: &[u8], plan: &[u8]) -> Verdict {
+    let room = match accepted_cluster(cluster) {
+        Ok(room) => room,
+        Err(number) => return Verdict::Refused { number, step: 0 },
+    };
+    let steps = match parse_plan(plan) {
+        Ok(steps) => steps,
+        Err(number) => return Verdict::Refused { number, step: 0 },
+    };
+    check_steps(&room, &steps)
+}
+
+/// The part of the checker behind both records' shape.
+pub fn check_steps(room: &Room, steps: &[Step]) -> Verdict {
+    let book = Book::of(room);
+    let mut here = Placement::current(room);
+    for (i, step) in steps.iter().enumerate() {
+        if let Some(number) = step_fault(room, &book, &here, step) {
+            return Verdict::Refused { number, step: i as u16 + 1 };
+        }
+        here = here.after(room, step);
+    }
+    if !here.out_of_place(room).is_empty() {
+        return Verdict::Refused { number: 19, step: 0 };
+    }
+    Verdict::Accepted { cost: plan_cost(room, steps) }
+}

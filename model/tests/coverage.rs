@@ -1,0 +1,94 @@
+//! The generators reach every refusal and every answer, and the hand-set cases come out as
+//! document 01 says.
+
+use kobdrieft_model::edges::edges;
+use kobdrieft_model::gen::{cases, Case};
+use kobdrieft_model::*;
+
+/// Builds into a buffer of the case's length; a refusal must leave every byte.
+fn built(cluster: &[u8], buffer: usize) -> Answer {
+    let mut out = vec![0x5A; buffer];
+    let answer = build(cluster, &mut out);
+    if let Answer::Refused { .. } = answer {
+        assert!(out.iter().all(|&b| b == 0x5A));
+    }
+    answer
+}
+
+#[test]
+fn hand_set_cases() {
+    let list = edges();
+    println!("{} hand-set cases", list.len());
+    for edge in list {
+        let check = match check(&edge.cluster, &edge.plan) {
+            Verdict::Accepted { .. } => None,
+            Verdict::Refused { number, step } => Some((number, step)),
+        };
+        assert_eq!(check, edge.check, "check: {}", edge.name);
+        let build = match built(&edge.cluster, edge.buffer) {
+            Answer::Refused { number, step } => {
+                assert_eq!(step, 0);
+                Some(number)
+            }
+            _ => None,
+        };
+        assert_eq!(build, edge.build, "build: {}", edge.name);
+    }
+}
+
+#[test]
+fn hand_set_cases_reach_every_number() {
+    let list = edges();
+    for number in (1..=9).chain(11..=19) {
+        assert!(list.iter().any(|e| e.check.is_some_and(|(n, _)| n == number)), "{number}");
+    }
+    for number in 1..=10 {
+        assert!(list.iter().any(|e| e.build == Some(number)), "{number}");
+    }
+}
+
+#[test]
+fn random_cases_reach_everything() {
+    let mut checks = [0; 20];
+    let mut builds = [0; 12];
+    for Case { cluster, plan, buffer } in cases(20, 40_000) {
+        match check(&cluster, &plan) {
+            Verdict::Accepted { .. } => checks[0] += 1,
+            Verdict::Refused { number, step } => {
+                assert_eq!(step > 0, (15..=18).contains(&number));
+                checks[usize::from(number)] += 1;
+            }
+        }
+        match built(&cluster, buffer) {
+            Answer::Plan { .. } => builds[0] += 1,
+            Answer::Refused { number, .. } => builds[usize::from(number)] += 1,
+            Answer::Blocked { .. } => builds[11] += 1,
+        }
+    }
+    println!("check, accepted then by number: {checks:?}");
+    println!("build, plan, by number, blocked: {builds:?}");
+    assert_eq!(checks[10], 0);
+    for (number, &count) in checks.iter().enumerate() {
+        assert!(number == 10 || count >= 50, "check {number}: {count}");
+    }
+    assert!(builds.iter().all(|&count| count >= 50), "{builds:?}");
+}
+
+#[test]
+fn generators_repeat_themselves() {
+    for (x, y) in cases(7, 200).zip(cases(7, 200)) {
+        assert_eq!((x.cluster, x.plan, x.buffer), (y.cluster, y.plan, y.buffer));
+    }
+}
+
+#[test]
+fn records_survive_writing_and_reading() {
+    for Case { cluster, plan, .. } in cases(21, 3_000) {
+        if let Ok(room) = parse_cluster(&cluster) {
+            assert_eq!(cluster_bytes(&room), cluster);
+        }
+        if let Ok(steps) = parse_plan(&plan) {
+            assert_eq!(plan_bytes(&steps), plan);
+        }
+    }
+}

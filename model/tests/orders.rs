@@ -1,0 +1,132 @@
+//! The meaning of a step, order by order, against the closed forms.
+
+use kobdrieft_model::edges::cluster_a;
+use kobdrieft_model::gen::{room, Rng, Size};
+use kobdrieft_model::orders::{every_order, every_state, explore, follow, Found, Phase, Run};
+use kobdrieft_model::rules::{meets_mate, misfits, step_fault, Book, Placement};
+use kobdrieft_model::{Constraint, Move, Node, Room, Step};
+
+/// A small room whose nodes were made tight around what they may have to hold in the step.
+fn tight(rng: &mut Rng) -> (Room, Placement, Step) {
+    let mut room = room(rng, Size::Tiny);
+    let (n, v) = (room.nodes.len(), room.vms.len());
+    let start = Placement::of(&room, (0..v).map(|_| rng.below(n)).collect());
+    let step = small_step(rng, &start, n, v);
+    let left = start.after(&room, &step).sums;
+    for (node, (before, after)) in room.nodes.iter_mut().zip(start.sums.iter().zip(&left)) {
+        let memory = before.memory.max(after.memory) + rng.below(5) as u64;
+        let cpu = before.cpu.max(after.cpu) + rng.pick(&[0, 1, 3, 100]);
+        *node = Node { memory: memory.saturating_sub(1), cpu: cpu.saturating_sub(1) };
+    }
+    if rng.chance(50) {
+        let all: Vec<usize> = (0..v).collect();
+        room.constraints.push(Constraint::Spread { vms: rng.some_of(&all) });
+    }
+    (room, start, step)
+}
+
+/// One to four moves with no fault 15.
+fn small_step(rng: &mut Rng, start: &Placement, n: usize, v: usize) -> Step {
+    let mut vms: Vec<usize> = (0..v).collect();
+    rng.shuffle(&mut vms);
+    vms.truncate(rng.range(1, 4));
+    vms.sort();
+    vms.iter().map(|&vm| Move { vm, to: (start.place[vm] + rng.range(1, n - 1)) % n }).collect()
+}
+
+fn closed(room: &Room, start: &Placement, step: &[Move]) -> Found {
+    Found { misfit: misfits(room, start, step), mate: meets_mate(&Book::of(room), start, step) }
+}
+
+#[test]
+fn closed_forms_say_what_all_states_say() {
+    let mut rng = Rng::new(1);
+    let mut outcomes = [0; 4];
+    for _ in 0..60_000 {
+        let (room, start, step) = tight(&mut rng);
+        let found = explore(&room, &start.place, &step);
+        assert_eq!(found, closed(&room, &start, &step), "{room:?} {start:?} {step:?}");
+        outcomes[usize::from(found.misfit) * 2 + usize::from(found.mate)] += 1;
+    }
+    println!("sound, 18 only, 17 only, both: {outcomes:?}");
+    assert!(outcomes.iter().all(|&count| count > 1_000), "{outcomes:?}");
+}
+
+#[test]
+fn a_running_vm_counts_on_both_its_nodes() {
+    let room = cluster_a();
+    let step = [Move { vm: 0, to: 2 }];
+    let run = Run { room: &room, start: &[0, 1], step: &step };
+    let loads = |phase| [0, 1, 2].map(|node| run.load(&[phase], node));
+    assert_eq!(loads(Phase::Waiting), [(3, 50), (2, 50), (0, 0)]);
+    assert_eq!(loads(Phase::Running), [(3, 50), (2, 50), (3, 50)]);
+    assert_eq!(loads(Phase::Ended), [(0, 0), (2, 50), (3, 50)]);
+}
+
+#[test]
+fn there_are_as_many_orders_as_there_should_be() {
+    for (moves, orders) in [(0, 1), (1, 1), (2, 6), (3, 90), (4, 2_520)] {
+        assert_eq!(every_order(moves).len(), orders);
+    }
+    let mut states = 0;
+    every_state(4, |_| states += 1);
+    assert_eq!(states, 81);
+}
+
+#[test]
+fn states_say_what_listed_orders_say() {
+    let mut rng = Rng::new(2);
+    let orders: Vec<_> = (0..=4).map(every_order).collect();
+    for round in 0..4_000 {
+        let (room, start, step) = tight(&mut rng);
+        if step.len() == 4 && round % 20 != 0 {
+            continue;
+        }
+        let mut found = Found::default();
+        for order in &orders[step.len()] {
+            let here = follow(&room, &start.place, &step, order);
+            found.misfit |= here.misfit;
+            found.mate |= here.mate;
+        }
+        assert_eq!(found, explore(&room, &start.place, &step));
+    }
+}
+
+#[test]
+fn in_a_sound_step_a_node_within_capacity_stays_within() {
+    let mut rng = Rng::new(3);
+    let mut sound = 0;
+    for _ in 0..20_000 {
+        let (room, start, step) = tight(&mut rng);
+        if closed(&room, &start, &step) != Found::default() {
+            continue;
+        }
+        sound += 1;
+        let run = Run { room: &room, start: &start.place, step: &step };
+        let waiting = vec![Phase::Waiting; step.len()];
+        for node in 0..room.nodes.len() {
+            let within = run.is_within(&waiting, node);
+            let arrival = step.iter().any(|m| m.to == node);
+            assert!(within || !arrival, "an overfull node took an arrival");
+            every_state(step.len(), |phases| assert!(!within || run.is_within(phases, node)));
+        }
+    }
+    assert!(sound > 1_000);
+}
+
+#[test]
+fn part_of_a_sound_step_is_sound() {
+    let mut rng = Rng::new(4);
+    for _ in 0..20_000 {
+        let (room, start, step) = tight(&mut rng);
+        let book = Book::of(&room);
+        if step_fault(&room, &book, &start, &step).is_some() {
+            continue;
+        }
+        for mask in 0..1 << step.len() {
+            let kept = (0..step.len()).filter(|i| mask >> i & 1 == 1);
+            let part: Step = kept.map(|i| step[i]).collect();
+            assert_eq!(step_fault(&room, &book, &start, &part), None);
+        }
+    }
+}
