@@ -1,0 +1,235 @@
+-- Laws on refusal 17: the pass over the destinations, and the sums as the tallies of the moment when every move runs.
+use Prim.Native.Nat.{ℕ, zero, suc, _+_, _-_, _*_, _≤_, _<_}
+use mathlib.Core.Bool.{Bool, true, false, not, _&&_}
+use mathlib.Core.List.{List, [], _∷_}
+use mathlib.Core.Logic.{_⊎_, inl, inr, ⊎-elim, by-cases}
+use mathlib.Core.Path.{_≡_, refl, sym, ap, _∙_}
+use native.Mathlib.Decide.{ℕ-discrete, decLt}
+use native.Mathlib.Numerals.{add-one}
+use native.Mathlib.Omega.{arith}
+use lib.ListN.{length, getD, set, take, drop, replicate, length-set, length-replicate, getD-replicate, drop-of-length-le}
+use lib.Seq.{getD-take, getD-set-same, getD-set-other}
+use lib.Dec.{ltb, leb, eqb}
+use mir.Syntax.{w64}
+use mir.Val.{Fits}
+use borrow.Author.Tests.{lt-ltb, le-leb, lt-leb, ltb-true, eq-eqb, ne-eqb, eqb-false, not-true}
+use Rattle.records.specs.Base.{pick, all}
+use Rattle.records.specs.Room.{Room, Node, nodeOf, vmOf, roomOf, nodeCount, vmCount, clusterCheck}
+use Rattle.records.specs.Plan.{Move, Step, moveOf, moveCount, stepAt}
+use Rattle.records.specs.declared.faults.ClusterCheck.the-variants.{Whole}
+use Rattle.records.proofs.Laws.Bools.{and-left, and-right, and-both, all-same, all-at}
+use Rattle.records.proofs.Laws.Cluster.{nodes-most, vms-most, vms-count, nodes-count}
+use Rattle.records.proofs.Laws.Steps.{step-length}
+use Rattle.rules.specs.Moments.{Placement, placeOf, Phase, idle, waiting, running, ended, Cell, cell, Moment, emptyTally, within, tallyAt, phaseOf, cellsFrom, firstMoment, begun, allRunning}
+use Rattle.rules.specs.Rules.{named, fitting}
+use Rattle.rules.specs.Inner.{held, Holds, destsFrom, goalIn, busyFrom, Ready, Loads, Aimed, fitsIn}
+use Rattle.rules.specs.declared.tally.Tally.{Tally}
+use Rattle.rules.proofs.Laws.Places.{step-cons}
+
+-- ---- a tally within a node
+
+module _ (node : Node) (t : Tally) (memory : ℕ) (e : memory ≡ node .memory) where
+  pub within-memory : memory < t .memory → false ≡ within node t
+  unfolding within
+  within-memory h = let w : node .memory < t .memory = omega arith in simp (lt-leb (t .memory) (node .memory) w)
+
+  pub within-cpu : (cpu : ℕ) → cpu ≡ node .cpu → t .memory ≤ memory → leb (t .cpu) cpu ≡ within node t
+  unfolding within
+  within-cpu cpu f h = let w : t .memory ≤ node .memory = omega arith in simp (f, le-leb (t .memory) (node .memory) w)
+
+-- ---- the pass over the destinations
+
+module _ (s plan : List ℕ) (at i n d : ℕ) (h : i < n) (q : n ≡ moveCount plan at) (e : d ≡ moveOf (stepAt plan at) i .to) (a : Aimed s (stepAt plan at)) where
+  pub aimed-below : d < nodeCount s
+  aimed-below = rw e (a .each i (rw (step-length plan at) (omega arith)))
+
+  module _ (w : clusterCheck s ≡ Whole) where
+    pub aimed-index : d < 65
+    aimed-index = let b = aimed-below in let m = nodes-most s w in omega arith
+
+    pub aimed-offset : Fits w64 (d * 16)
+    aimed-offset = let b = aimed-below in let m = nodes-most s w in record { fits = omega arith }
+
+module _ (s plan : List ℕ) (at i n d : ℕ) (sums : List Tally) (ok result : Bool) (f : ok ≡ within (nodeOf (roomOf s) d) (getD sums d emptyTally))
+    (e : d ≡ moveOf (stepAt plan at) i .to) (q : n ≡ moveCount plan at) (inv : fitsIn (roomOf s) sums (drop i (stepAt plan at)) ≡ result) (h : i < n) where
+  opened : (ok && fitsIn (roomOf s) sums (drop (suc i) (stepAt plan at))) ≡ result
+  unfolding fitsIn all
+  opened = let k : i < moveCount plan at = omega arith in rw (f, e) (simp (step-cons plan at i k) at inv)
+
+  pub fits-not : ok ≡ false → false ≡ result
+  fits-not o = simp o at opened
+
+  pub fits-more : ok ≡ true → fitsIn (roomOf s) sums (drop (i + 1) (stepAt plan at)) ≡ result
+  fits-more o = rw add-one (simp o at opened)
+
+pub fits-end : (s plan : List ℕ) (at i n : ℕ) (sums : List Tally) (result : Bool) → n ≡ moveCount plan at → fitsIn (roomOf s) sums (drop i (stepAt plan at)) ≡ result →
+    n ≤ i → true ≡ result
+unfolding fitsIn all
+fits-end s plan at i n sums result q inv h =
+    let k : length (stepAt plan at) ≤ i = rw (step-length plan at) (omega arith) in
+    rw (drop-of-length-le (stepAt plan at) k) at inv
+
+-- ---- the destinations of an array are those of the step
+
+dests-length : (step : Step) → length (destsFrom step) ≡ 256
+unfolding destsFrom
+dests-length [] = simp length-replicate
+dests-length (move ∷ moves) = length-set (destsFrom moves) (move .vm) (move .to) ∙ dests-length moves
+
+-- each move goes to a node below 64
+far : Step → Bool
+far step = all (λ move. ltb (move .to) 64) step
+
+goal-is : (step : Step) (v : ℕ) → v < 256 → far step ≡ true → goalIn (destsFrom step) v ≡ begun (phaseOf step v)
+unfolding goalIn destsFrom phaseOf begun far all
+goal-is [] v h a = rw (getD-replicate {A = ℕ} 256 v 64 0 h)
+goal-is (move ∷ moves) v h a =
+    by-cases (ℕ-discrete (move .vm) v)
+    (λ e. let l : move .to < 64 = ltb-true (move .to) 64 (and-left (ltb (move .to) 64) (all (λ m. ltb (m .to) 64) moves) a) in
+    let k : v < length (destsFrom moves) = rw (dests-length moves) h in
+    simp (eq-eqb (move .vm) v e) (rw (ap (λ (u : ℕ). getD (set (destsFrom moves) u (move .to)) v 0) e ∙ getD-set-same (destsFrom moves) v (move .to) 0 k, ne-eqb (move .to) 64 (λ x. omega arith))))
+    (λ e. simp (ne-eqb (move .vm) v e)
+    (rw (getD-set-other (destsFrom moves) (move .vm) v (move .to) 0 (λ x. e (sym x)))
+    (goal-is moves v h (and-right (ltb (move .to) 64) (all (λ m. ltb (m .to) 64) moves) a))))
+
+dest-waits : (step : Step) (v : ℕ) → v < 256 → getD (destsFrom step) v 0 < 64 → phaseOf step v ≡ waiting (getD (destsFrom step) v 0)
+unfolding destsFrom phaseOf
+dest-waits [] v h k = let e = getD-replicate {A = ℕ} 256 v 64 0 h in absurd (omega arith)
+dest-waits (move ∷ moves) v h k =
+    by-cases (ℕ-discrete (move .vm) v)
+    (λ e. let l : v < length (destsFrom moves) = rw (dests-length moves) h in
+    simp (eq-eqb (move .vm) v e) (ap waiting (sym (ap (λ (u : ℕ). getD (set (destsFrom moves) u (move .to)) v 0) e ∙ getD-set-same (destsFrom moves) v (move .to) 0 l))))
+    (λ e. let o = getD-set-other (destsFrom moves) (move .vm) v (move .to) 0 (λ x. e (sym x)) in
+    simp (ne-eqb (move .vm) v e) (rw o (dest-waits moves v h (rw o at k))))
+
+waits-dest : (step : Step) (v d : ℕ) → v < 256 → phaseOf step v ≡ waiting d → getD (destsFrom step) v 0 ≡ d
+unfolding destsFrom phaseOf
+waits-dest [] v d h p = let z : _≡_ {A = ℕ} 0 1 = cc in absurd (omega arith)
+waits-dest (move ∷ moves) v d h p =
+    by-cases (ℕ-discrete (move .vm) v)
+    (λ e. let l : v < length (destsFrom moves) = rw (dests-length moves) h in
+    let q : waiting (move .to) ≡ waiting d = simp (eq-eqb (move .vm) v e) at p in
+    ap (λ (u : ℕ). getD (set (destsFrom moves) u (move .to)) v 0) e ∙ getD-set-same (destsFrom moves) v (move .to) 0 l ∙ cc)
+    (λ e. getD-set-other (destsFrom moves) (move .vm) v (move .to) 0 (λ x. e (sym x)) ∙ waits-dest moves v d h (simp (ne-eqb (move .vm) v e) at p))
+
+busy-is : (s places : List ℕ) (step : Step) (v n : ℕ) → vmCount s ≤ 256 → far step ≡ true → v + n ≤ vmCount s →
+    busyFrom places (destsFrom step) v n ≡ allRunning (cellsFrom (held s places) step v n)
+unfolding busyFrom allRunning cellsFrom held
+busy-is s places step v zero m a h = refl
+busy-is s places step v (suc n) m a h =
+    let k : v < vmCount s = omega arith in
+    let l : v < 256 = omega arith in
+    rw (getD-take (vmCount s) places v 0 k, goal-is step v l a, busy-is s places step (suc v) n m a (omega arith))
+
+pub held-at : (s places : List ℕ) (v : ℕ) → v < vmCount s → placeOf (held s places) v ≡ getD places v 0
+unfolding held
+held-at s places v h = getD-take (vmCount s) places v 0 h
+
+-- ---- what a well named step has
+
+module _ (s : List ℕ) (places : Placement) where
+  -- its parts
+  named-parts : (least : ℕ) (move : Move) (moves : Step) → named (roomOf s) places least (move ∷ moves) ≡ true →
+      ((leb least (move .vm) && ltb (move .vm) (vmCount s)) &&
+      ((ltb (move .to) (nodeCount s) && not (eqb (move .to) (placeOf places (move .vm)))) && named (roomOf s) places (suc (move .vm)) moves)) ≡ true
+  unfolding named
+  named-parts least move moves e = simp (vms-count, nodes-count) at e
+
+  named-to : (least : ℕ) (move : Move) (moves : Step) → named (roomOf s) places least (move ∷ moves) ≡ true → move .to < nodeCount s
+  named-to least move moves e =
+      ltb-true (move .to) (nodeCount s)
+      (and-left (ltb (move .to) (nodeCount s)) (not (eqb (move .to) (placeOf places (move .vm))))
+      (and-left (ltb (move .to) (nodeCount s) && not (eqb (move .to) (placeOf places (move .vm)))) _
+      (and-right (leb least (move .vm) && ltb (move .vm) (vmCount s)) _ (named-parts least move moves e))))
+
+  named-leaves : (least : ℕ) (move : Move) (moves : Step) → named (roomOf s) places least (move ∷ moves) ≡ true → move .to ≡ placeOf places (move .vm) → ⊥
+  named-leaves least move moves e =
+      eqb-false (move .to) (placeOf places (move .vm)) (not-true (eqb (move .to) (placeOf places (move .vm)))
+      (and-right (ltb (move .to) (nodeCount s)) (not (eqb (move .to) (placeOf places (move .vm))))
+      (and-left (ltb (move .to) (nodeCount s) && not (eqb (move .to) (placeOf places (move .vm)))) _
+      (and-right (leb least (move .vm) && ltb (move .vm) (vmCount s)) _ (named-parts least move moves e)))))
+
+  pub named-vm : (least : ℕ) (move : Move) (moves : Step) → named (roomOf s) places least (move ∷ moves) ≡ true → move .vm < vmCount s
+  named-vm least move moves e =
+      ltb-true (move .vm) (vmCount s)
+      (and-right (leb least (move .vm)) (ltb (move .vm) (vmCount s))
+      (and-left (leb least (move .vm) && ltb (move .vm) (vmCount s)) _ (named-parts least move moves e)))
+
+  named-rest : (least : ℕ) (move : Move) (moves : Step) → named (roomOf s) places least (move ∷ moves) ≡ true → named (roomOf s) places (suc (move .vm)) moves ≡ true
+  named-rest least move moves e =
+      and-right (ltb (move .to) (nodeCount s) && not (eqb (move .to) (placeOf places (move .vm)))) _
+      (and-right (leb least (move .vm) && ltb (move .vm) (vmCount s)) _ (named-parts least move moves e))
+
+  named-aimed : (least : ℕ) (step : Step) → named (roomOf s) places least step ≡ true → (i : ℕ) → i < length step → moveOf step i .to < nodeCount s
+  unfolding moveOf
+  named-aimed least [] e i h = absurd (omega arith)
+  named-aimed least (move ∷ moves) e zero h = named-to least move moves e
+  named-aimed least (move ∷ moves) e (suc i) h = named-aimed (suc (move .vm)) moves (named-rest least move moves e) i (omega arith)
+
+  named-far : (least : ℕ) (step : Step) → nodeCount s ≤ 64 → named (roomOf s) places least step ≡ true → far step ≡ true
+  unfolding far all
+  named-far least [] m e = refl
+  named-far least (move ∷ moves) m e =
+      let t = named-to least move moves e in
+      and-both (lt-ltb (move .to) 64 (omega arith)) (named-far (suc (move .vm)) moves m (named-rest least move moves e))
+
+  -- no VM is sent where it is
+  named-goal : (least : ℕ) (step : Step) (v : ℕ) → v < 256 → named (roomOf s) places least step ≡ true →
+      (getD (destsFrom step) v 0 ≡ 64) ⊎ ((getD (destsFrom step) v 0 < nodeCount s) × (getD (destsFrom step) v 0 ≡ placeOf places v → ⊥))
+  unfolding destsFrom
+  named-goal least [] v h e = inl (getD-replicate {A = ℕ} 256 v 64 0 h)
+  named-goal least (move ∷ moves) v h e =
+      by-cases (ℕ-discrete (move .vm) v)
+      (λ x. let k : v < length (destsFrom moves) = rw (dests-length moves) h in
+      let g : getD (set (destsFrom moves) (move .vm) (move .to)) v 0 ≡ move .to = ap (λ (u : ℕ). getD (set (destsFrom moves) u (move .to)) v 0) x ∙ getD-set-same (destsFrom moves) v (move .to) 0 k in
+      inr (rw g (named-to least move moves e), λ y. named-leaves least move moves e (sym g ∙ y ∙ ap (placeOf places) (sym x))))
+      (λ x. rw (getD-set-other (destsFrom moves) (move .vm) v (move .to) 0 (λ y. x (sym y))) (named-goal (suc (move .vm)) moves v h (named-rest least move moves e)))
+
+-- tests of tallies that agree on all nodes below 64
+each-same : (sums : List Tally) (tally : ℕ → Tally) (room : Room) (step : Step) → far step ≡ true → ((d : ℕ) → d < 64 → getD sums d emptyTally ≡ tally d) →
+    all (λ move. within (nodeOf room (move .to)) (getD sums (move .to) emptyTally)) step ≡ all (λ move. within (nodeOf room (move .to)) (tally (move .to))) step
+unfolding far all
+each-same sums tally room [] f e = refl
+each-same sums tally room (move ∷ moves) f e =
+    rw (
+      e (move .to) (ltb-true (move .to) 64 (and-left (ltb (move .to) 64) (all (λ m. ltb (m .to) 64) moves) f)),
+      each-same sums tally room moves (and-right (ltb (move .to) 64) (all (λ m. ltb (m .to) 64) moves) f) e,
+    )
+
+pub first-is : (s : List ℕ) (places : Placement) (step : Step) → firstMoment (roomOf s) places step ≡ cellsFrom places step 0 (vmCount s)
+unfolding firstMoment
+first-is s places step = ap (cellsFrom places step 0) (vms-count s)
+
+-- ---- together: what the code has is what the definition says
+
+module _ (s places : List ℕ) (step : Step) (w : clusterCheck s ≡ Whole) (n : named (roomOf s) (held s places) 0 step ≡ true) where
+  pub named-is-aimed : Aimed s step
+  named-is-aimed = record { each = named-aimed s (held s places) 0 step n }
+
+  pub named-ready : ((v : ℕ) → getD places v 0 < nodeCount s) → Ready s places (destsFrom step)
+  named-ready b =
+      let nodes = nodes-most s w in
+      let vms = vms-most s w in
+      record {
+        place = λ v h. let p = b v in omega arith;
+        most = λ v h. ⊎-elim (λ x. omega arith) (λ x. omega arith) (named-goal s (held s places) 0 step v (omega arith) n);
+        leaves = λ v h x. let p = b v in ⊎-elim (λ y. omega arith) (λ y. y .1 (x ∙ sym (held-at s places v h))) (named-goal s (held s places) 0 step v (omega arith) n);
+      }
+
+  far-step : far step ≡ true
+  far-step = named-far s (held s places) 0 step (nodes-most s w) n
+
+  -- the moment when every move runs, from the two arrays
+  pub running-is : busyFrom places (destsFrom step) 0 (vmCount s) ≡ allRunning (firstMoment (roomOf s) (held s places) step)
+  running-is = busy-is s places step 0 (vmCount s) (vms-most s w) far-step (omega arith) ∙ ap allRunning (sym (first-is s (held s places) step))
+
+  -- a destination in the array is that of a waiting move
+  pub dest-phase : (v : ℕ) → v < 256 → getD (destsFrom step) v 0 < 64 → phaseOf step v ≡ waiting (getD (destsFrom step) v 0)
+  dest-phase v h k = dest-waits step v h k
+
+  pub phase-dest : (v d : ℕ) → v < 256 → phaseOf step v ≡ waiting d → getD (destsFrom step) v 0 ≡ d
+  phase-dest v d h e = waits-dest step v d h e
+
+  pub fitting-is : (sums : List Tally) (r : Bool) → r ≡ fitsIn (roomOf s) sums step → Loads s places (destsFrom step) sums → r ≡ fitting (roomOf s) (held s places) step
+  unfolding fitsIn fitting
+  fitting-is sums r e l = e ∙ each-same sums (λ d. tallyAt (roomOf s) d (allRunning (firstMoment (roomOf s) (held s places) step))) (roomOf s) step far-step (λ d h. l .each d h ∙ ap (tallyAt (roomOf s) d) running-is)

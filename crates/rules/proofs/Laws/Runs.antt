@@ -1,0 +1,325 @@
+-- Laws on whole runs: where they end, when all of them obey the rules, how full the nodes are.
+use Prim.Native.Nat.{ℕ, zero, suc, _+_, _≤_}
+use mathlib.Core.Bool.{Bool, true, false, _||_, false≢true, or-true, or-false}
+use mathlib.Core.List.{List, [], _∷_, map}
+use mathlib.Core.Logic.{inl, inr, _↔_}
+use mathlib.Core.Path.{_≡_, refl, sym, ap, _∙_}
+use native.Mathlib.Omega.{arith}
+use lib.ListN.{length, getD}
+use lib.Dec.{leb, eqb}
+use borrow.Author.Tests.{leb-true, eqb-true, eqb-false, le-leb, ne-eqb}
+use Rattle.records.specs.Base.{pick, all}
+use Rattle.records.specs.Room.{Room, nodeOf}
+use Rattle.records.specs.Plan.{Step}
+use Rattle.records.proofs.Laws.Bools.{and-left, and-right, and-both}
+use Rattle.rules.specs.Moments.{Placement, placeOf, after, within, Phase, idle, waiting, running, ended, cell, Moment, numberOf, countsOn, tallyAt, phaseOf, cellsFrom, firstMoment, rests, settled, leftAt, placesLeft}
+use Rattle.rules.specs.Orders.{begin, finish, Event, begins, ends, later, Order, done, next, Run, stop, step, fits, meetsMate, EachBegin, SomeBegin, EachMoment, EachBeginOfRun, EachMomentOfRun, MayBegin}
+use Rattle.rules.specs.Rules.{from, allowed, named, permitted, fitting, unmet, soundStep}
+use Rattle.rules.specs.Promises.{afterAll, namedAll, soundAll, Obeys, SomeOrder, NeverOverfull}
+use Rattle.rules.proofs.Laws.Sound.{sound-named, sound-permitted, sound-fitting, sound-unmet, sound-tests}
+use Rattle.rules.proofs.Laws.Orders.{never, load, memoryIn, cpuIn, memory-load, cpu-load, Under, under-self, both, under-load, Onward, none, same, runs, over, stops, onward-self, onward-order, begins-allowed, begins-fit, begins-apart, some-order, some-forbidden, some-misfit, some-mate, after-length, order-leaves}
+
+-- ---- claims over begins
+
+pub each-both : (P Q R : Moment → ℕ → ℕ → Type 0) → ((cs : Moment) (v d : ℕ) → P cs v d → Q cs v d → R cs v d) →
+    {cs ds : Moment} (o : Order cs ds) → EachBegin P o → EachBegin Q o → EachBegin R o
+each-both P Q R h done p q = tt
+each-both P Q R h (next {cs = cs} {a = begin v d} e o) p q = (h cs v d (p .0) (q .0), each-both P Q R h o (p .1) (q .1))
+each-both P Q R h (next {a = finish v} e o) p q = each-both P Q R h o p q
+
+-- what each begin has, no begin can lack
+pub each-some : (P Q : Moment → ℕ → ℕ → Type 0) → ((cs : Moment) (v d : ℕ) → P cs v d → Q cs v d → ⊥) →
+    {cs ds : Moment} (o : Order cs ds) → EachBegin P o → SomeBegin Q o → ⊥
+each-some P Q h done p q = q
+each-some P Q h (next {cs = cs} {a = begin v d} e o) p (inl q) = h cs v d (p .0) q
+each-some P Q h (next {a = begin v d} e o) p (inr q) = each-some P Q h o (p .1) q
+each-some P Q h (next {a = finish v} e o) p q = each-some P Q h o p q
+
+pub each-run : (P Q : Moment → ℕ → ℕ → Type 0) → ((cs : Moment) (v d : ℕ) → P cs v d → Q cs v d) →
+    {room : Room} {places last : Placement} {steps : List Step} (run : Run room places steps last) → EachBeginOfRun P run → EachBeginOfRun Q run
+each-run P Q h stop p = tt
+each-run P Q h (step o s r) p = (each-both P P Q (λ cs v d x y. h cs v d x) o (p .0) (p .0), each-run P Q h r (p .1))
+
+-- ---- 17 and 18 are seen in orders, and only where they are
+
+module _ (room : Room) (places : Placement) (moves : Step) (n : named room places 0 moves ≡ true) where
+  pub misfit-exact : (fitting room places moves ≡ false) ↔ SomeOrder room places moves (λ cs v d. fits room cs v d ≡ false)
+  misfit-exact = (some-misfit room places moves n, λ x. go x (fitting room places moves) refl)
+    where
+      go : SomeOrder room places moves (λ cs v d. fits room cs v d ≡ false) → (b : Bool) → fitting room places moves ≡ b → b ≡ false
+      go x false t = refl
+      go x true t = absurd (
+          each-some (λ cs v d. fits room cs v d ≡ true) (λ cs v d. fits room cs v d ≡ false) (λ cs v d p q. false≢true (sym q ∙ p))
+          (x .order) (begins-fit room places moves n t (x .order)) (x .begin))
+
+  pub mate-exact : (unmet room places moves ≡ false) ↔ SomeOrder room places moves (λ cs v d. meetsMate room cs v d ≡ true)
+  mate-exact = (some-mate room places moves n, λ x. go x (unmet room places moves) refl)
+    where
+      go : SomeOrder room places moves (λ cs v d. meetsMate room cs v d ≡ true) → (b : Bool) → unmet room places moves ≡ b → b ≡ false
+      go x false t = refl
+      go x true t = absurd (
+          each-some (λ cs v d. meetsMate room cs v d ≡ false) (λ cs v d. meetsMate room cs v d ≡ true) (λ cs v d p q. false≢true (sym p ∙ q))
+          (x .order) (begins-apart room places moves t (x .order)) (x .begin))
+
+-- ---- where runs end
+
+pub sound-all-named : (room : Room) (places : Placement) (steps : List Step) → soundAll room places steps ≡ true → namedAll room places steps ≡ true
+unfolding soundAll namedAll
+sound-all-named room places [] e = refl
+sound-all-named room places (moves ∷ steps) e =
+    and-both (sound-named room places moves (and-left (soundStep room places moves) (soundAll room (after places moves) steps) e))
+    (sound-all-named room (after places moves) steps (and-right (soundStep room places moves) (soundAll room (after places moves) steps) e))
+
+pub run-ends : {room : Room} {places last : Placement} {steps : List Step} → namedAll room places steps ≡ true → length places ≡ length (room .vms) →
+    Run room places steps last → last ≡ afterAll places steps
+unfolding namedAll afterAll
+run-ends n l stop = refl
+run-ends {room} {places} n l (step {moves = moves} {steps = steps} o s r) =
+    let left = order-leaves room places moves (and-left (named room places 0 moves) (namedAll room (after places moves) steps) n) l o s in
+    let more : namedAll room (after places moves) steps ≡ true = and-right (named room places 0 moves) (namedAll room (after places moves) steps) n in
+    run-ends (rw (← left) at more) (ap length left ∙ after-length places moves ∙ l) r ∙ ap (λ (p : Placement). afterAll p steps) left
+
+-- there is a run
+pub some-run : (room : Room) (places : Placement) (steps : List Step) → (last : Placement) × Run room places steps last
+some-run room places [] = (places, stop)
+some-run room places (moves ∷ steps) =
+    let o = some-order room places moves in
+    let r = some-run room (placesLeft (o .0)) steps in
+    (r .0, step (o .1) (o .2) (r .1))
+
+-- ---- runs of sound steps obey the rules, and only those
+
+pub order-obeys : (room : Room) (places : Placement) (moves : Step) → soundStep room places moves ≡ true → {end : Moment}
+    (o : Order (firstMoment room places moves) end) → EachBegin (Obeys room) o
+order-obeys room places moves e o =
+    each-both (MayBegin room) (λ cs v d. allowed room v d ≡ true) (Obeys room) (λ cs v d m a. record { may = m; permitted = a }) o
+    (each-both (λ cs v d. fits room cs v d ≡ true) (λ cs v d. meetsMate room cs v d ≡ false) (MayBegin room) (λ cs v d f a. record { fit = f; apart = a }) o
+    (begins-fit room places moves (sound-named room places moves e) (sound-fitting room places moves e) o)
+    (begins-apart room places moves (sound-unmet room places moves e) o))
+    (begins-allowed room places moves (sound-permitted room places moves e) o)
+
+pub run-obeys : {room : Room} {places last : Placement} {steps : List Step} → soundAll room places steps ≡ true → length places ≡ length (room .vms) →
+    (run : Run room places steps last) → EachBeginOfRun (Obeys room) run
+unfolding soundAll
+run-obeys e l stop = tt
+run-obeys {room} {places} e l (step {moves = moves} {steps = steps} o s r) =
+    let sound = and-left (soundStep room places moves) (soundAll room (after places moves) steps) e in
+    let more : soundAll room (after places moves) steps ≡ true = and-right (soundStep room places moves) (soundAll room (after places moves) steps) e in
+    let left = order-leaves room places moves (sound-named room places moves sound) l o s in
+    (order-obeys room places moves sound o, run-obeys (rw (← left) at more) (ap length left ∙ after-length places moves ∙ l) r)
+
+-- a step without fault 15 whose orders all obey the rules is sound
+pub step-sound : (room : Room) (places : Placement) (moves : Step) → named room places 0 moves ≡ true →
+    ((end : Moment) (o : Order (firstMoment room places moves) end) → settled end ≡ true → EachBegin (Obeys room) o) → soundStep room places moves ≡ true
+step-sound room places moves n h =
+    sound-tests room places moves n (decided (permitted room moves) (λ e. forbidden (some-forbidden room places moves n e)))
+    (decided (fitting room places moves) (λ e. misfit (some-misfit room places moves n e)))
+    (decided (unmet room places moves) (λ e. mate (some-mate room places moves n e)))
+  where
+    decided : (b : Bool) → (b ≡ false → ⊥) → b ≡ true
+    decided true f = refl
+    decided false f = absurd (f refl)
+
+    forbidden : SomeOrder room places moves (λ cs v d. allowed room v d ≡ false) → ⊥
+    forbidden x =
+        each-some (Obeys room) (λ cs v d. allowed room v d ≡ false) (λ cs v d p q. false≢true (sym q ∙ p .permitted)) (x .order)
+        (h (x .end) (x .order) (x .whole)) (x .begin)
+
+    misfit : SomeOrder room places moves (λ cs v d. fits room cs v d ≡ false) → ⊥
+    misfit x =
+        each-some (Obeys room) (λ cs v d. fits room cs v d ≡ false) (λ cs v d p q. false≢true (sym q ∙ p .may .fit)) (x .order)
+        (h (x .end) (x .order) (x .whole)) (x .begin)
+
+    mate : SomeOrder room places moves (λ cs v d. meetsMate room cs v d ≡ true) → ⊥
+    mate x =
+        each-some (Obeys room) (λ cs v d. meetsMate room cs v d ≡ true) (λ cs v d p q. false≢true (sym (p .may .apart) ∙ q)) (x .order)
+        (h (x .end) (x .order) (x .whole)) (x .begin)
+
+pub runs-sound : (room : Room) (places : Placement) (steps : List Step) → namedAll room places steps ≡ true → length places ≡ length (room .vms) →
+    ((last : Placement) (run : Run room places steps last) → EachBeginOfRun (Obeys room) run) → soundAll room places steps ≡ true
+unfolding soundAll namedAll
+runs-sound room places [] n l h = refl
+runs-sound room places (moves ∷ steps) n l h =
+    let name = and-left (named room places 0 moves) (namedAll room (after places moves) steps) n in
+    let more : namedAll room (after places moves) steps ≡ true = and-right (named room places 0 moves) (namedAll room (after places moves) steps) n in
+    let o = some-order room places moves in
+    let left = order-leaves room places moves name l (o .1) (o .2) in
+    and-both
+    (step-sound room places moves name (λ end p s. let r = some-run room (placesLeft end) steps in h (r .0) (step p s (r .1)) .0))
+    (rw left at (runs-sound room (placesLeft (o .0)) steps (rw (← left) at more) (ap length left ∙ after-length places moves ∙ l) (λ last r. h last (step (o .1) (o .2) r) .1)))
+
+-- ---- how full a node is along a run
+
+-- a begin elsewhere and an end leave a node no fuller; a begin there adds the VM
+begin-most : {cs ds : Moment} {v d : ℕ} (f : ℕ → ℕ) → Event cs (begin v d) ds → load f d ds ≤ load f d cs + f v
+unfolding load countsOn
+begin-most f (begins {v = v} {place = p} {to = d} {cs = cs}) = picked (eqb p d) (eqb d d)
+  where
+    picked : (a b : Bool) → pick (a || b) (load f d cs + f v) (load f d cs) ≤ pick a (load f d cs + f v) (load f d cs) + f v
+    picked true b = omega arith
+    picked false true = omega arith
+    picked false false = omega arith
+begin-most {v = v} {d = d} f (later {c = c} {cs = cs} e) = picked (countsOn d c) (load f d cs) (begin-most f e)
+  where
+    picked : (b : Bool) (m : ℕ) {n : ℕ} → n ≤ m + f v → pick b (n + f (numberOf c)) n ≤ pick b (m + f (numberOf c)) m + f v
+    picked true m h = omega arith
+    picked false m h = h
+
+begin-elsewhere : {cs ds : Moment} {v to : ℕ} (d : ℕ) → (to ≡ d → ⊥) → Event cs (begin v to) ds → Under d ds cs
+unfolding countsOn
+begin-elsewhere d h (begins {place = p} {to = to} {cs = cs}) = both (λ e. sym (or-false (eqb p d)) ∙ ap (λ (b : Bool). eqb p d || b) (sym (ne-eqb to d h)) ∙ e) (under-self d cs)
+begin-elsewhere d h (later {c = cell v p x} e) = both (λ e. e) (begin-elsewhere d h e)
+
+end-under : {cs ds : Moment} {v : ℕ} (d : ℕ) → Event cs (finish v) ds → Under d ds cs
+unfolding countsOn
+end-under d (ends {place = p} {to = to} {cs = cs}) = both (λ e. ap (λ (b : Bool). eqb p d || b) e ∙ or-true (eqb p d)) (under-self d cs)
+end-under d (later {c = cell v p x} e) = both (λ e. e) (end-under d e)
+
+module _ (f : ℕ → ℕ) (d most : ℕ) where
+  -- the VM is within the bound when it begins
+  abbrev pub Room-for : Moment → ℕ → ℕ → Type 0
+  Room-for cs v to = to ≡ d → load f d cs + f v ≤ most
+
+  pub event-most : {cs ds : Moment} {v to : ℕ} → Event cs (begin v to) ds → Room-for cs v to → load f d cs ≤ most → load f d ds ≤ most
+  event-most {cs} {ds} {v} {to} e h m = go (eqb to d) refl
+    where
+      go : (b : Bool) → eqb to d ≡ b → load f d ds ≤ most
+      go true t =
+          let q = eqb-true to d t in
+          let k = begin-most f (rw q at e) in
+          omega (arith, h q)
+      go false t = let k = under-load f (begin-elsewhere d (eqb-false to d t) e) in omega arith
+
+  -- from a node within the bound no moment of an order is above it, its last one included
+  pub order-most : {cs ds : Moment} (o : Order cs ds) → EachBegin Room-for o → load f d cs ≤ most → EachMoment (λ ms. load f d ms ≤ most) o × (load f d ds ≤ most)
+  order-most done b m = (m, m)
+  order-most (next {a = begin v to} e o) b m = let r = order-most o (b .1) (event-most e (b .0) m) in ((m, r .0), r .1)
+  order-most (next {a = finish v} e o) b m =
+      let k = under-load f (end-under d e) in
+      let r = order-most o b (omega arith) in
+      ((m, r .0), r .1)
+
+-- at a step's first moment every VM counts on its place
+counts-first : (d v p : ℕ) (moves : Step) → countsOn d (cell v p (phaseOf moves v)) ≡ eqb p d
+unfolding countsOn phaseOf
+counts-first d v p [] = refl
+counts-first d v p (move ∷ moves) = picked (eqb (move .vm) v) (counts-first d v p moves)
+  where
+    picked : (b : Bool) → countsOn d (cell v p (phaseOf moves v)) ≡ eqb p d → countsOn d (cell v p (pick b (waiting (move .to)) (phaseOf moves v))) ≡ eqb p d
+    picked true e = refl
+    picked false e = e
+
+first-load : (f : ℕ → ℕ) (d : ℕ) (places : Placement) (moves : Step) (v n : ℕ) → load f d (cellsFrom places moves v n) ≡ load f d (cellsFrom places [] v n)
+unfolding cellsFrom load
+first-load f d places moves v zero = refl
+first-load f d places moves v (suc n) =
+    rw (counts-first d v (placeOf places v) moves, counts-first d v (placeOf places v) [], first-load f d places moves (suc v) n)
+
+-- at a settled moment on the node that it is left on
+counts-left : (d v p : ℕ) (x : Phase) → rests (cell v p x) ≡ true → countsOn d (cell v p x) ≡ eqb (leftAt (cell v p x)) d
+unfolding countsOn rests leftAt
+counts-left d v p idle e = refl
+counts-left d v p (waiting to) e = absurd (false≢true e)
+counts-left d v p (running to) e = absurd (false≢true e)
+counts-left d v p (ended to) e = refl
+
+numbers-onward : {ws cs : Moment} → Onward ws cs → map numberOf cs ≡ map numberOf ws
+numbers-onward none = refl
+numbers-onward (same {c = c} o) = ap (λ (l : List ℕ). numberOf c ∷ l) (numbers-onward o)
+numbers-onward (runs {v = v} o) = ap (λ (l : List ℕ). v ∷ l) (numbers-onward o)
+numbers-onward (over {v = v} o) = ap (λ (l : List ℕ). v ∷ l) (numbers-onward o)
+numbers-onward (stops {v = v} o) = ap (λ (l : List ℕ). v ∷ l) (numbers-onward o)
+
+numbers-first : (places : Placement) (moves : Step) (v n : ℕ) → map numberOf (cellsFrom places moves v n) ≡ from v n
+unfolding cellsFrom from
+numbers-first places moves v zero = refl
+numbers-first places moves v (suc n) = ap (λ (l : List ℕ). v ∷ l) (numbers-first places moves (suc v) n)
+
+left-from : (f : ℕ → ℕ) (d : ℕ) (places : Placement) (cs : Moment) (v n : ℕ) → settled cs ≡ true → map numberOf cs ≡ from v n →
+    ((i : ℕ) → placeOf places (v + i) ≡ getD (map leftAt cs) i 0) → load f d (cellsFrom places [] v n) ≡ load f d cs
+unfolding cellsFrom load settled all from
+left-from f d places [] v zero s e h = refl
+left-from f d places [] v (suc n) s e h = never (cc)
+left-from f d places (c ∷ cs) v zero s e h = never (cc)
+left-from f d places (cell w p x ∷ cs) v (suc n) s e h =
+    let head : w ≡ v = cc in
+    let tail : map numberOf cs ≡ from (suc v) n = cc in
+    let more : (i : ℕ) → placeOf places (suc v + i) ≡ getD (map leftAt cs) i 0 = λ i. let k : v + suc i ≡ suc v + i = omega arith in rw k at (h (suc i)) in
+    let here : placeOf places v ≡ leftAt (cell w p x) = let k : v + 0 ≡ v = omega arith in rw k at (h 0) in
+    let load-is = left-from f d places cs (suc v) n (and-right (rests (cell w p x)) (all rests cs) s) tail more in
+    rw (counts-first d v (placeOf places v) [], counts-left d w p x (and-left (rests (cell w p x)) (all rests cs) s), here, head, load-is)
+
+-- so a step starts with the load that the one before it left
+pub left-load : (f : ℕ → ℕ) (d : ℕ) (room : Room) (places : Placement) (moves : Step) {end : Moment} → Order (firstMoment room places moves) end →
+    settled end ≡ true → load f d (firstMoment room (placesLeft end) []) ≡ load f d end
+unfolding firstMoment placesLeft
+left-load f d room places moves {end} o s =
+    left-from f d (placesLeft end) end 0 (length (room .vms)) s
+    (numbers-onward (onward-order (onward-self (firstMoment room places moves)) o) ∙ numbers-first places moves 0 (length (room .vms)))
+    (λ i. let k : 0 + i ≡ i = omega arith in rw k refl)
+
+-- a run whose begins keep a bound on a node keeps it at every moment
+pub run-most : (f : ℕ → ℕ) (d most : ℕ) {room : Room} {places last : Placement} {steps : List Step} (run : Run room places steps last) →
+    EachBeginOfRun (Room-for f d most) run → load f d (firstMoment room places []) ≤ most → EachMomentOfRun (λ cs. load f d cs ≤ most) run
+unfolding firstMoment
+run-most f d most stop b m = tt
+run-most f d most {room} {places} (step {moves = moves} {end = end} o s r) b m =
+    let start : load f d (firstMoment room places moves) ≤ most = rw (first-load f d places moves 0 (length (room .vms))) m in
+    let k = order-most f d most o (b .0) start in
+    (k .0, run-most f d most r (b .1) (rw (left-load f d room places moves o s) (k .1)))
+
+-- ---- no run of sound steps fills a node
+
+each-moment : (P Q : Moment → Type 0) → ((cs : Moment) → P cs → Q cs) → {cs ds : Moment} (o : Order cs ds) → EachMoment P o → EachMoment Q o
+each-moment P Q h (done {cs = cs}) p = h cs p
+each-moment P Q h (next {cs = cs} e o) p = (h cs (p .0), each-moment P Q h o (p .1))
+
+each-moment-run : (P Q : Moment → Type 0) → ((cs : Moment) → P cs → Q cs) → {room : Room} {places last : Placement} {steps : List Step}
+    (run : Run room places steps last) → EachMomentOfRun P run → EachMomentOfRun Q run
+each-moment-run P Q h stop p = tt
+each-moment-run P Q h (step o s r) p = (each-moment P Q h o (p .0), each-moment-run P Q h r (p .1))
+
+-- what a VM that fits says of each number
+module _ (room : Room) (cs : Moment) (v d : ℕ) (e : fits room cs v d ≡ true) where
+  fits-memory : tallyAt room d cs .memory + memoryIn room v ≤ nodeOf room d .memory
+  unfolding fits within
+  fits-memory =
+      leb-true (tallyAt room d cs .memory + memoryIn room v) (nodeOf room d .memory)
+      (and-left (leb (tallyAt room d cs .memory + memoryIn room v) (nodeOf room d .memory)) _ e)
+
+  fits-cpu : tallyAt room d cs .cpu + cpuIn room v ≤ nodeOf room d .cpu
+  unfolding fits within
+  fits-cpu =
+      leb-true (tallyAt room d cs .cpu + cpuIn room v) (nodeOf room d .cpu)
+      (and-right (leb (tallyAt room d cs .memory + memoryIn room v) (nodeOf room d .memory)) _ e)
+
+  pub fits-within : within (nodeOf room d) (tallyAt room d cs) ≡ true
+  unfolding within
+  fits-within =
+      let m = fits-memory in let c = fits-cpu in
+      and-both (le-leb (tallyAt room d cs .memory) (nodeOf room d .memory) (omega arith)) (le-leb (tallyAt room d cs .cpu) (nodeOf room d .cpu) (omega arith))
+
+  room-memory : (k : ℕ) → Room-for (memoryIn room) k (nodeOf room k .memory) cs v d
+  room-memory k q = let m = fits-memory in rw (← q) (omega (arith, memory-load room d cs))
+
+  room-cpu : (k : ℕ) → Room-for (cpuIn room) k (nodeOf room k .cpu) cs v d
+  room-cpu k q = let m = fits-cpu in rw (← q) (omega (arith, cpu-load room d cs))
+
+pub never-overfull : (room : Room) (places : Placement) (steps : List Step) → soundAll room places steps ≡ true → length places ≡ length (room .vms) →
+    NeverOverfull room places steps
+never-overfull room places steps e l = record {
+  memory = λ last run d m.
+      each-moment-run (λ cs. load (memoryIn room) d cs ≤ nodeOf room d .memory) (λ cs. tallyAt room d cs .memory ≤ nodeOf room d .memory)
+      (λ cs h. omega (arith, memory-load room d cs)) run
+      (run-most (memoryIn room) d (nodeOf room d .memory) run
+      (each-run (Obeys room) (Room-for (memoryIn room) d (nodeOf room d .memory)) (λ cs v k p. room-memory room cs v k (p .may .fit) d) run (run-obeys e l run))
+      (omega (arith, memory-load room d (firstMoment room places []))));
+  cpu = λ last run d m.
+      each-moment-run (λ cs. load (cpuIn room) d cs ≤ nodeOf room d .cpu) (λ cs. tallyAt room d cs .cpu ≤ nodeOf room d .cpu)
+      (λ cs h. omega (arith, cpu-load room d cs)) run
+      (run-most (cpuIn room) d (nodeOf room d .cpu) run
+      (each-run (Obeys room) (Room-for (cpuIn room) d (nodeOf room d .cpu)) (λ cs v k p. room-cpu room cs v k (p .may .fit) d) run (run-obeys e l run))
+      (omega (arith, cpu-load room d (firstMoment room places []))));
+  arrivals = λ last run.
+      each-run (Obeys room) (λ cs v d. within (nodeOf room d) (tallyAt room d cs) ≡ true) (λ cs v d p. fits-within room cs v d (p .may .fit)) run (run-obeys e l run);
+}

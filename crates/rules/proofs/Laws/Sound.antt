@@ -1,0 +1,223 @@
+-- Laws on sound steps: what the first fault says of the four tests; a part of a sound step is sound.
+use Prim.Native.Nat.{ℕ, zero, suc, _≤_, _<_}
+use mathlib.Core.Bool.{Bool, true, false, not, _&&_}
+use mathlib.Core.List.{List, [], _∷_, Sublistᴰ, Sublistᴰ·slnil, Sublistᴰ·cons, Sublistᴰ·cons-cons}
+use mathlib.Core.Logic.{_↔_, _⊎_, inl, inr}
+use mathlib.Core.Path.{_≡_, refl, sym, ap, _∙_}
+use native.Mathlib.Omega.{arith}
+use lib.ListN.{length}
+use lib.Dec.{eqb}
+use borrow.Author.Tests.{eqb-true, ne-eqb}
+use Rattle.records.specs.Base.{pick, all}
+use Rattle.records.specs.Room.{Room, nodeOf}
+use Rattle.records.specs.Plan.{Move, Step}
+use Rattle.records.proofs.Laws.Bools.{and-left, and-right, and-both}
+use Rattle.rules.specs.Moments.{Placement, placeOf, idle, waiting, cell, countsOn, within, tallyAt, phaseOf, cellsFrom, firstMoment, begun, allRunning}
+use Rattle.rules.specs.Orders.{meetsMate}
+use Rattle.rules.specs.Rules.{allowed, named, permitted, fitting, unmet, stepCheck, soundStep}
+use Rattle.rules.specs.declared.faults.StepFault.the-variants.{Misnamed, Forbidden, Misfit, Mate}
+use Rattle.rules.specs.declared.faults.StepCheck.{StepCheck}
+use Rattle.rules.specs.declared.faults.StepCheck.the-variants.{Sound, Faulty}
+use Rattle.rules.proofs.Laws.Orders.{never, Under, empty, both, meets-under, within-under, named-least, named-vm, named-node, named-off, named-rest, named-cons}
+
+-- the first fault from the tests
+abbrev found : Bool → Bool → Bool → Bool → StepCheck
+found n p f u = pick (not n) (Faulty Misnamed) (pick (not p) (Faulty Forbidden) (pick (not f) (Faulty Misfit) (pick (not u) (Faulty Mate) Sound)))
+
+-- the tests that a fault tells
+pub record IsMisfit (n p f : Bool) : Type 0 where
+  pub well-named : n ≡ true
+  pub permitted : p ≡ true
+  pub misfit : f ≡ false
+
+pub record IsMate (n p f u : Bool) : Type 0 where
+  pub well-named : n ≡ true
+  pub permitted : p ≡ true
+  pub fit : f ≡ true
+  pub mate : u ≡ false
+
+none-found : (n p f u : Bool) → found n p f u ≡ Sound → (n && (p && (f && u))) ≡ true
+none-found false p f u e = never (cc)
+none-found true false f u e = never (cc)
+none-found true true false u e = never (cc)
+none-found true true true false e = never (cc)
+none-found true true true true e = refl
+
+misfit-found : (n p f u : Bool) → found n p f u ≡ Faulty Misfit → IsMisfit n p f
+misfit-found false p f u e = never (cc)
+misfit-found true false f u e = never (cc)
+misfit-found true true false u e = record { well-named = refl; permitted = refl; misfit = refl }
+misfit-found true true true false e = never (cc)
+misfit-found true true true true e = never (cc)
+
+mate-found : (n p f u : Bool) → found n p f u ≡ Faulty Mate → IsMate n p f u
+mate-found false p f u e = never (cc)
+mate-found true false f u e = never (cc)
+mate-found true true false u e = never (cc)
+mate-found true true true false e = record { well-named = refl; permitted = refl; fit = refl; mate = refl }
+mate-found true true true true e = never (cc)
+
+module _ (room : Room) (places : Placement) (step : Step) where
+  -- a sound step, by its tests
+  module _ (e : soundStep room places step ≡ true) where
+    pub sound-named : named room places 0 step ≡ true
+    unfolding soundStep
+    sound-named = and-left (named room places 0 step) _ e
+
+    rest : (permitted room step && (fitting room places step && unmet room places step)) ≡ true
+    unfolding soundStep
+    rest = and-right (named room places 0 step) _ e
+
+    pub sound-permitted : permitted room step ≡ true
+    sound-permitted = and-left (permitted room step) _ rest
+
+    pub sound-fitting : fitting room places step ≡ true
+    sound-fitting = and-left (fitting room places step) _ (and-right (permitted room step) _ rest)
+
+    pub sound-unmet : unmet room places step ≡ true
+    sound-unmet = and-right (fitting room places step) _ (and-right (permitted room step) _ rest)
+
+  pub sound-tests : named room places 0 step ≡ true → permitted room step ≡ true → fitting room places step ≡ true → unmet room places step ≡ true →
+      soundStep room places step ≡ true
+  unfolding soundStep
+  sound-tests n p f u = and-both n (and-both p (and-both f u))
+
+  -- the first fault, by the tests
+  pub sound-none : (soundStep room places step ≡ true) ↔ (stepCheck room places step ≡ Sound)
+  unfolding stepCheck soundStep
+  sound-none = (
+    λ e. simp (sound-named e, sound-permitted e, sound-fitting e, sound-unmet e),
+    none-found (named room places 0 step) (permitted room step) (fitting room places step) (unmet room places step),
+  )
+
+  pub misfit-check : (stepCheck room places step ≡ Faulty Misfit) ↔ IsMisfit (named room places 0 step) (permitted room step) (fitting room places step)
+  unfolding stepCheck
+  misfit-check = (
+    misfit-found (named room places 0 step) (permitted room step) (fitting room places step) (unmet room places step),
+    λ t. simp (t .well-named, t .permitted, t .misfit),
+  )
+
+  pub mate-check : (stepCheck room places step ≡ Faulty Mate) ↔ IsMate (named room places 0 step) (permitted room step) (fitting room places step) (unmet room places step)
+  unfolding stepCheck
+  mate-check = (
+    mate-found (named room places 0 step) (permitted room step) (fitting room places step) (unmet room places step),
+    λ t. simp (t .well-named, t .permitted, t .fit, t .mate),
+  )
+
+-- ---- a part of a sound step, its moves in order, is sound
+
+pub all-part : {A : Type 0} (q : A → Bool) {part whole : List A} → Sublistᴰ part whole → all q whole ≡ true → all q part ≡ true
+unfolding all
+all-part q Sublistᴰ·slnil e = e
+all-part q (Sublistᴰ·cons {a = a} {l₂ = l} s) e = all-part q s (and-right (q a) (all q l) e)
+all-part q (Sublistᴰ·cons-cons {b = b} {l₂ = l} p s) e = and-both (ap q p ∙ and-left (q b) (all q l) e) (all-part q s (and-right (q b) (all q l) e))
+
+pub all-more : {A : Type 0} (p q : A → Bool) → ((x : A) → p x ≡ true → q x ≡ true) → (xs : List A) → all p xs ≡ true → all q xs ≡ true
+unfolding all
+all-more p q h [] e = e
+all-more p q h (x ∷ xs) e = and-both (h x (and-left (p x) (all p xs) e)) (all-more p q h xs (and-right (p x) (all p xs) e))
+
+module _ (room : Room) (places : Placement) where
+  pub named-part : (low least : ℕ) {part whole : Step} → Sublistᴰ part whole → low ≤ least → named room places least whole ≡ true → named room places low part ≡ true
+  unfolding named
+  named-part low least Sublistᴰ·slnil h e = refl
+  named-part low least (Sublistᴰ·cons {a = move} {l₂ = moves} s) h e =
+      let l = named-least room places least move moves e in
+      named-part low (suc (move .vm)) s (omega arith) (named-rest room places least move moves e)
+  named-part low least (Sublistᴰ·cons-cons {a = a} {b = b} {l₁ = part} {l₂ = moves} p s) h e =
+      let l = named-least room places least b moves e in
+      let k : low ≤ b .vm = omega arith in
+      let t : named room places low (b ∷ part) ≡ true =
+      named-cons room places low b part k (named-vm room places least b moves e) (named-node room places least b moves e)
+      (named-off room places least b moves e) (named-part (suc (b .vm)) (suc (b .vm)) s (omega arith) (named-rest room places least b moves e)) in
+      ap (λ (x : Move). named room places low (x ∷ part)) p ∙ t
+
+  -- a VM below the least has no move
+  pub phase-below : (least : ℕ) (step : Step) (v : ℕ) → named room places least step ≡ true → v < least → phaseOf step v ≡ idle
+  unfolding phaseOf
+  phase-below least [] v e h = refl
+  phase-below least (move ∷ moves) v e h =
+      let l = named-least room places least move moves e in
+      let m : move .vm ≡ v → ⊥ = λ q. omega arith in
+      rw (ne-eqb (move .vm) v m) (phase-below (suc (move .vm)) moves v (named-rest room places least move moves e) (omega arith))
+
+  -- in the part a VM has the move that it has in the whole, or none
+  pub phase-part : (least : ℕ) {part whole : Step} → Sublistᴰ part whole → (v : ℕ) → named room places least whole ≡ true →
+      (phaseOf part v ≡ idle) ⊎ (phaseOf part v ≡ phaseOf whole v)
+  unfolding phaseOf
+  phase-part least Sublistᴰ·slnil v e = inl refl
+  phase-part least (Sublistᴰ·cons {a = move} {l₁ = part} {l₂ = moves} s) v e =
+      go (eqb (move .vm) v) refl (phase-part (suc (move .vm)) s v (named-rest room places least move moves e))
+    where
+      go : (b : Bool) → eqb (move .vm) v ≡ b → (phaseOf part v ≡ idle) ⊎ (phaseOf part v ≡ phaseOf moves v) →
+          (phaseOf part v ≡ idle) ⊎ (phaseOf part v ≡ pick b (waiting (move .to)) (phaseOf moves v))
+      go true t w =
+          let q = eqb-true (move .vm) v t in
+          inl (phase-below (suc (move .vm)) part v (named-part (suc (move .vm)) (suc (move .vm)) s (omega arith) (named-rest room places least move moves e)) (omega arith))
+      go false t w = w
+  phase-part least (Sublistᴰ·cons-cons {a = a} {b = b} {l₁ = part} {l₂ = moves} p s) v e =
+      rw p (go (eqb (b .vm) v) (phase-part (suc (b .vm)) s v (named-rest room places least b moves e)))
+    where
+      go : (t : Bool) → (phaseOf part v ≡ idle) ⊎ (phaseOf part v ≡ phaseOf moves v) →
+          (pick t (waiting (b .to)) (phaseOf part v) ≡ idle) ⊎ (pick t (waiting (b .to)) (phaseOf part v) ≡ pick t (waiting (b .to)) (phaseOf moves v))
+      go true w = inr refl
+      go false w = w
+
+-- a VM counts on its place with every move running, moved or not
+counts-place : (d v p : ℕ) (step : Step) → eqb p d ≡ true → countsOn d (cell v p (begun (phaseOf step v))) ≡ true
+unfolding phaseOf begun countsOn
+counts-place d v p [] e = e
+counts-place d v p (move ∷ moves) e = picked (eqb (move .vm) v) (counts-place d v p moves e)
+  where
+    picked : (b : Bool) → countsOn d (cell v p (begun (phaseOf moves v))) ≡ true →
+        countsOn d (cell v p (begun (pick b (waiting (move .to)) (phaseOf moves v)))) ≡ true
+    picked true h = rw e
+    picked false h = h
+
+module _ (room : Room) (places : Placement) {part whole : Step} (s : Sublistᴰ part whole) (n : named room places 0 whole ≡ true) where
+  -- with every move running the part is under the whole
+  pub under-whole : (d v k : ℕ) → Under d (allRunning (cellsFrom places part v k)) (allRunning (cellsFrom places whole v k))
+  unfolding cellsFrom allRunning begun countsOn
+  under-whole d v zero = empty
+  under-whole d v (suc k) = both (counts (phase-part room places 0 s v n)) (under-whole d (suc v) k)
+    where
+      counts : (phaseOf part v ≡ idle) ⊎ (phaseOf part v ≡ phaseOf whole v) →
+          countsOn d (cell v (placeOf places v) (begun (phaseOf part v))) ≡ true → countsOn d (cell v (placeOf places v) (begun (phaseOf whole v))) ≡ true
+      counts (inl i) e = counts-place d v (placeOf places v) whole (rw i at e)
+      counts (inr i) e = rw i at e
+
+  under-first : (d : ℕ) → Under d (allRunning (firstMoment room places part)) (allRunning (firstMoment room places whole))
+  unfolding firstMoment
+  under-first d = under-whole d 0 (length (room .vms))
+
+  pub fitting-part : fitting room places whole ≡ true → fitting room places part ≡ true
+  unfolding fitting
+  fitting-part e =
+      all-more (λ move. within (nodeOf room (move .to)) (tallyAt room (move .to) (allRunning (firstMoment room places whole))))
+      (λ move. within (nodeOf room (move .to)) (tallyAt room (move .to) (allRunning (firstMoment room places part))))
+      (λ move h. within-under room (nodeOf room (move .to)) (under-first (move .to)) h) part
+      (all-part (λ move. within (nodeOf room (move .to)) (tallyAt room (move .to) (allRunning (firstMoment room places whole)))) s e)
+
+  pub unmet-part : unmet room places whole ≡ true → unmet room places part ≡ true
+  unfolding unmet
+  unmet-part e =
+      all-more (λ move. not (meetsMate room (allRunning (firstMoment room places whole)) (move .vm) (move .to)))
+      (λ move. not (meetsMate room (allRunning (firstMoment room places part)) (move .vm) (move .to)))
+      (λ move h. fewer (meetsMate room (allRunning (firstMoment room places part)) (move .vm) (move .to))
+      (meetsMate room (allRunning (firstMoment room places whole)) (move .vm) (move .to)) (met (move .vm) (move .to)) h) part
+      (all-part (λ move. not (meetsMate room (allRunning (firstMoment room places whole)) (move .vm) (move .to))) s e)
+    where
+      fewer : (a b : Bool) → (a ≡ true → b ≡ true) → not b ≡ true → not a ≡ true
+      fewer false b h e = refl
+      fewer true b h e = sym (ap not (h refl)) ∙ e
+
+      met : (v d : ℕ) → meetsMate room (allRunning (firstMoment room places part)) v d ≡ true → meetsMate room (allRunning (firstMoment room places whole)) v d ≡ true
+      met v d e = meets-under room v (under-first d) e
+
+pub sound-part : (room : Room) (places : Placement) {part whole : Step} → Sublistᴰ part whole → soundStep room places whole ≡ true → soundStep room places part ≡ true
+unfolding permitted
+sound-part room places {part} {whole} s e =
+    let n = sound-named room places whole e in
+    sound-tests room places part (named-part room places 0 0 s (omega arith) n)
+    (all-part (λ move. allowed room (move .vm) (move .to)) s (sound-permitted room places whole e))
+    (fitting-part room places s n (sound-fitting room places whole e)) (unmet-part room places s n (sound-unmet room places whole e))

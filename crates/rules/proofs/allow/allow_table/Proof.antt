@@ -1,0 +1,81 @@
+use borrow.Author.Needs.{needs}
+use Prim.Native.Nat.{_≤_, _-_}
+use mathlib.Core.Path.{_≡_}
+use lib.ListN.{replicate}
+use Rattle.records.specs.Room.{constraintsStart, constraintCount, partsFrom}
+use Rattle.records.specs.Inner.{Parts}
+use Rattle.records.proofs.Laws.Parts.{parts-add}
+use Rattle.records.proofs.Laws.Walk.{walk-within, walk-filled, walk-next}
+use Rattle.rules.specs.Inner.{appliedAll}
+use Rattle.rules.proofs.Laws.Allow.{walk-from, allow-from, walk-below, allow-more, allow-end}
+use Rattle.rules.proofs.allow.allow_table.Statement.{statement}
+use Rattle.rules.proofs.allow.allow_table.Tie as tie
+use Rattle.rules.proofs.allow.allow_table.Reads as reads
+use Rattle.rules.proofs.allow.allow_table.Lts as lts
+use Rattle.records.proofs.constraint_count.Reads as constraint-count-reads
+use Rattle.records.proofs.first_constraint.Reads as first-constraint-reads
+use Rattle.records.proofs.part.Reads as part-reads
+use Rattle.rules.proofs.allow.apply.Reads as apply-reads
+
+abbrev Inv-loop : tie.InvT-loop
+Inv-loop cluster table₀ at₀ left₀ table at left = Parts cluster at left × (appliedAll table (partsFrom cluster at left) ≡ appliedAll (replicate 16384 1) (partsFrom cluster (constraintsStart cluster) (constraintCount cluster)))
+
+abbrev μ-loop : tie.MeasureT-loop
+μ-loop cluster table₀ at₀ left₀ table at left = left
+
+-- src/allow.rt:85:9
+first-constraint-requires : tie.Need-first-constraint-requires Inv-loop μ-loop
+first-constraint-requires c κs = search needs
+
+-- src/allow.rt:86:9
+constraint-count-requires : tie.Need-constraint-count-requires Inv-loop μ-loop
+constraint-count-requires c κs = search needs
+
+-- src/allow.rt:87:5
+loop-holds : tie.Need-loop-holds Inv-loop μ-loop
+loop-holds c = search (needs, walk-from, allow-from)
+
+-- src/allow.rt:88:13
+part-requires : tie.Need-part-requires Inv-loop μ-loop
+part-requires c κs = search (needs, walk-within)
+
+-- src/allow.rt:89:9
+apply-requires : tie.Need-apply-requires Inv-loop μ-loop
+apply-requires c κs = search (needs, walk-filled, walk-below)
+
+-- src/allow.rt:90:9
+add-at : tie.Need-add-at Inv-loop μ-loop
+add-at c = search (needs, parts-add)
+
+-- src/allow.rt:91:9
+sub-left : tie.Need-sub-left Inv-loop μ-loop
+sub-left c = search needs
+
+-- src/allow.rt:87:5
+loop-less : tie.Need-loop-less Inv-loop μ-loop
+loop-less c = search needs
+
+-- src/allow.rt:87:5
+loop-again : tie.Need-loop-again Inv-loop μ-loop
+loop-again c = search (needs, walk-next, allow-more)
+
+-- src/allow.rt:80:1
+returns : tie.Need-returns Inv-loop μ-loop
+returns c = search (needs, allow-end)
+
+pub allow-table-spec : {M : Type 1} → statement M
+allow-table-spec =
+    tie.close
+    (tie.spec
+    Inv-loop
+    μ-loop
+    first-constraint-requires
+    constraint-count-requires
+    loop-holds
+    part-requires
+    apply-requires
+    add-at
+    sub-left
+    loop-less
+    loop-again
+    returns)

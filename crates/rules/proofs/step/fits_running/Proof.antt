@@ -1,0 +1,89 @@
+use borrow.Author.Needs.{needs}
+use Prim.Native.Nat.{_≤_, _-_}
+use mathlib.Core.Path.{_≡_}
+use lib.ListN.{drop}
+use borrow.Author.Tests.{not-true, not-false}
+use Rattle.records.specs.Room.{roomOf}
+use Rattle.records.specs.Plan.{stepAt}
+use Rattle.rules.specs.Inner.{fitsIn}
+use Rattle.rules.proofs.Laws.Fit.{aimed-below, aimed-index, aimed-offset, fits-not, fits-more, fits-end}
+use Rattle.rules.proofs.step.fits_running.Statement.{statement}
+use Rattle.rules.proofs.step.fits_running.Tie as tie
+use Rattle.rules.proofs.step.fits_running.Reads as reads
+use Rattle.rules.proofs.step.fits_running.Lts as lts
+use Rattle.records.proofs.move_count.Reads as move-count-reads
+use Rattle.records.proofs.move_to.Reads as move-to-reads
+use Rattle.rules.proofs.tally.within_node.Reads as within-node-reads
+
+abbrev Inv-loop : tie.InvT-loop
+Inv-loop cluster plan at sums n i₀ i = (i ≤ n) × (fitsIn (roomOf cluster) sums (drop i (stepAt plan at)) ≡ fitsIn (roomOf cluster) sums (stepAt plan at))
+
+abbrev μ-loop : tie.MeasureT-loop
+μ-loop cluster plan at sums n i₀ i = n - i
+
+-- src/step.rt:72:9
+move-count-requires : tie.Need-move-count-requires Inv-loop μ-loop
+move-count-requires c κs = search needs
+
+-- src/step.rt:74:5
+loop-holds : tie.Need-loop-holds Inv-loop μ-loop
+loop-holds c = search needs
+
+-- src/step.rt:75:17
+move-to-requires : tie.Need-move-to-requires Inv-loop μ-loop
+move-to-requires c κs = search needs
+
+-- src/step.rt:75:17
+cast-d : tie.Need-cast-d Inv-loop μ-loop
+cast-d c = search needs
+
+-- src/step.rt:76:17
+mul-t : tie.Need-mul-t Inv-loop μ-loop
+mul-t c = search (needs, aimed-offset)
+
+-- src/step.rt:76:17
+array-copy-out-t : tie.Need-array-copy-out-t Inv-loop μ-loop
+array-copy-out-t c = search (needs, aimed-index)
+
+-- src/step.rt:77:13
+within-node-requires : tie.Need-within-node-requires Inv-loop μ-loop
+within-node-requires c κs = search (needs, aimed-below)
+
+-- src/step.rt:78:13
+returns : tie.Need-returns Inv-loop μ-loop
+returns c = search (needs, fits-not, not-true)
+
+-- src/step.rt:80:9
+add-i : tie.Need-add-i Inv-loop μ-loop
+add-i c = search needs
+
+-- src/step.rt:74:5
+loop-less : tie.Need-loop-less Inv-loop μ-loop
+loop-less c = search needs
+
+-- src/step.rt:74:5
+loop-again : tie.Need-loop-again Inv-loop μ-loop
+loop-again c = search (needs, fits-more, not-false)
+
+-- src/step.rt:68:1
+returns-2 : tie.Need-returns-2 Inv-loop μ-loop
+returns-2 c = search (needs, fits-end)
+
+pub fits-running-spec : {M : Type 1} → statement M
+fits-running-spec =
+    tie.close
+    (tie.spec
+    Inv-loop
+    μ-loop
+    move-count-requires
+    loop-holds
+    move-to-requires
+    cast-d
+    mul-t
+    array-copy-out-t
+    within-node-requires
+    returns
+    add-i
+    loop-less
+    loop-again
+    returns-2)

@@ -1,0 +1,140 @@
+use Rattle.rules.proofs.Laws.Loads.{loaded-start, loaded-more, loaded-end, place-index, place-offset, dest-index, dest-offset, second-same}
+use borrow.Author.Needs.{needs}
+use native.Mathlib.Omega.{arith}
+use Prim.Native.Nat.{_≤_}
+use Rattle.records.specs.Room.{vmCount}
+use Rattle.rules.specs.Inner.{Loaded}
+use Rattle.rules.proofs.step.loads.Statement.{statement}
+use Rattle.rules.proofs.step.loads.Tie as tie
+use Rattle.rules.proofs.step.loads.Reads as reads
+use Rattle.rules.proofs.step.loads.Lts as lts
+use Rattle.records.proofs.vm_count.Reads as vm-count-reads
+use Rattle.rules.proofs.places.node_at.Reads as node-at-reads
+use Rattle.rules.proofs.tally.Tally.with.Reads as with-reads
+use Rattle.rules.proofs.tally.need_of.Reads as need-of-reads
+
+abbrev Inv-loop : tie.InvT-loop
+Inv-loop cluster places dests sums₀ v₀ sums v = (v ≤ vmCount cluster) × Loaded cluster places dests v sums
+
+abbrev μ-loop : tie.MeasureT-loop
+μ-loop cluster places dests sums₀ v₀ sums v = v
+
+-- src/step.rt:52:9
+vm-count-requires : tie.Need-vm-count-requires Inv-loop μ-loop
+vm-count-requires c κs = search needs
+
+-- src/step.rt:53:5
+loop-holds : tie.Need-loop-holds Inv-loop μ-loop
+loop-holds c = search (needs, loaded-start)
+
+-- src/step.rt:54:9
+sub-v : tie.Need-sub-v Inv-loop μ-loop
+sub-v c = search needs
+
+-- src/step.rt:55:13
+need-of-requires : tie.Need-need-of-requires Inv-loop μ-loop
+need-of-requires c κs = search needs
+
+-- src/step.rt:56:13
+node-at-requires : tie.Need-node-at-requires Inv-loop μ-loop
+node-at-requires c κs = search needs
+
+-- src/step.rt:57:20
+mul-here : tie.Need-mul-here Inv-loop μ-loop
+mul-here c = search (needs, place-offset)
+
+-- src/step.rt:57:20
+array-copy-out-here : tie.Need-array-copy-out-here Inv-loop μ-loop
+array-copy-out-here c = search (needs, place-index)
+
+-- src/step.rt:58:19
+with-requires : tie.Need-with-requires Inv-loop μ-loop
+with-requires c κs = let head = c .before .before .before .before in omega (arith, head .loop .inv .1 .memory-most (c .before .node-at .result), head .loop .inv .1 .cpu-most (c .before .node-at .result))
+
+-- src/step.rt:58:9
+mul-sums : tie.Need-mul-sums Inv-loop μ-loop
+mul-sums c = search (needs, place-offset)
+
+-- src/step.rt:58:9
+array-set-from-sums : tie.Need-array-set-from-sums Inv-loop μ-loop
+array-set-from-sums c = search (needs, place-index)
+
+-- src/step.rt:59:13
+node-at-requires-2 : tie.Need-node-at-requires-2 Inv-loop μ-loop
+node-at-requires-2 c κs = search needs
+
+-- src/step.rt:60:21
+mul-there : tie.Need-mul-there Inv-loop μ-loop
+mul-there c = search (needs, dest-offset)
+
+-- src/step.rt:60:21
+array-copy-out-there : tie.Need-array-copy-out-there Inv-loop μ-loop
+array-copy-out-there c = search (needs, dest-index)
+
+-- src/step.rt:61:19
+with-requires-2 : tie.Need-with-requires-2 Inv-loop μ-loop
+with-requires-2 c κs =
+    let dest = c .before in
+    let place = dest .before .before .before in
+    let test = place .before .before in
+    let head = test .before in
+    let pre = head .before .before .before .pre .1 in
+    rw (second-same _ _ _ _ _ _ (head .loop .sums) (dest .before .with .result) (place .node-at .ensures .0) (dest .node-at2 .ensures .0) pre
+    (test .loop-test .taken) (head .loop .inv .0))
+    (omega (arith, head .loop .inv .1 .memory-most (dest .node-at2 .result), head .loop .inv .1 .cpu-most (dest .node-at2 .result)))
+
+-- src/step.rt:61:9
+mul-sums-2 : tie.Need-mul-sums-2 Inv-loop μ-loop
+mul-sums-2 c = search (needs, dest-offset)
+
+-- src/step.rt:61:9
+array-set-from-sums-2 : tie.Need-array-set-from-sums-2 Inv-loop μ-loop
+array-set-from-sums-2 c = search (needs, dest-index)
+
+-- src/step.rt:53:5
+loop-less : tie.Need-loop-less Inv-loop μ-loop
+loop-less c = search needs
+
+-- src/step.rt:53:5
+loop-again : tie.Need-loop-again Inv-loop μ-loop
+loop-again c =
+    let dest = c .before .before in
+    let place = dest .before .before .before in
+    let vm = place .before in
+    let test = vm .before in
+    let head = test .before in
+    let pre = head .before .before .before .pre .1 in (
+      omega arith,
+      loaded-more _ _ _ _ _ _ _ _ _ _ (head .loop .inv .1) pre (vm .need-of .ensures) (place .node-at .ensures .0) (dest .node-at2 .ensures .0)
+          (test .loop-test .taken) (head .loop .inv .0) (dest .before .with .ensures) (c .with2 .ensures),
+    )
+
+-- src/step.rt:47:1
+returns : tie.Need-returns Inv-loop μ-loop
+returns c = search (needs, loaded-end)
+
+pub loads-spec : {M : Type 1} → statement M
+loads-spec =
+    tie.close
+    (tie.spec
+    Inv-loop
+    μ-loop
+    vm-count-requires
+    loop-holds
+    sub-v
+    need-of-requires
+    node-at-requires
+    mul-here
+    array-copy-out-here
+    with-requires
+    mul-sums
+    array-set-from-sums
+    node-at-requires-2
+    mul-there
+    array-copy-out-there
+    with-requires-2
+    mul-sums-2
+    array-set-from-sums-2
+    loop-less
+    loop-again
+    returns)

@@ -1,0 +1,138 @@
+use borrow.Author.Needs.{needs}
+use Prim.Native.Nat.{_≤_, _-_}
+use mathlib.Core.Path.{_≡_}
+use lib.ListN.{drop}
+use Rattle.records.specs.Room.{roomOf}
+use Rattle.records.specs.Plan.{stepAt}
+use Rattle.rules.specs.Rules.{named}
+use Rattle.rules.specs.Inner.{held}
+use native.Mathlib.Omega.{arith}
+use Rattle.rules.proofs.Laws.Named.{named-low, named-past, named-far, named-stays, named-more, named-end}
+use Rattle.rules.proofs.step.well_named.Statement.{statement}
+use Rattle.rules.proofs.step.well_named.Tie as tie
+use Rattle.rules.proofs.step.well_named.Reads as reads
+use Rattle.rules.proofs.step.well_named.Lts as lts
+use Rattle.records.proofs.move_count.Reads as move-count-reads
+use Rattle.records.proofs.move_to.Reads as move-to-reads
+use Rattle.records.proofs.move_vm.Reads as move-vm-reads
+use Rattle.records.proofs.node_count.Reads as node-count-reads
+use Rattle.records.proofs.vm_count.Reads as vm-count-reads
+use Rattle.rules.proofs.places.node_at.Reads as node-at-reads
+
+abbrev Inv-loop : tie.InvT-loop
+Inv-loop cluster plan at places vms nodes n least₀ i₀ least i = (i ≤ n) × (least ≤ 256) × (named (roomOf cluster) (held cluster places) least (drop i (stepAt plan at)) ≡ named (roomOf cluster) (held cluster places) 0 (stepAt plan at))
+
+abbrev μ-loop : tie.MeasureT-loop
+μ-loop cluster plan at places vms nodes n least₀ i₀ least i = n - i
+
+-- src/step.rt:19:9
+vm-count-requires : tie.Need-vm-count-requires Inv-loop μ-loop
+vm-count-requires c κs = search needs
+
+-- src/step.rt:20:9
+node-count-requires : tie.Need-node-count-requires Inv-loop μ-loop
+node-count-requires c κs = search needs
+
+-- src/step.rt:21:9
+move-count-requires : tie.Need-move-count-requires Inv-loop μ-loop
+move-count-requires c κs = search needs
+
+-- src/step.rt:24:5
+loop-holds : tie.Need-loop-holds Inv-loop μ-loop
+loop-holds c = search needs
+
+-- src/step.rt:25:17
+move-vm-requires : tie.Need-move-vm-requires Inv-loop μ-loop
+move-vm-requires c κs = search needs
+
+-- src/step.rt:25:17
+cast-v : tie.Need-cast-v Inv-loop μ-loop
+cast-v c = search needs
+
+-- src/step.rt:27:13
+returns : tie.Need-returns Inv-loop μ-loop
+returns c = search (needs, named-low)
+
+-- src/step.rt:30:13
+returns-2 : tie.Need-returns-2 Inv-loop μ-loop
+returns-2 c = search (needs, named-past)
+
+-- src/step.rt:32:17
+move-to-requires : tie.Need-move-to-requires Inv-loop μ-loop
+move-to-requires c κs = search needs
+
+-- src/step.rt:32:17
+cast-d : tie.Need-cast-d Inv-loop μ-loop
+cast-d c = search needs
+
+-- src/step.rt:34:13
+returns-3 : tie.Need-returns-3 Inv-loop μ-loop
+returns-3 c = search (needs, named-far)
+
+-- src/step.rt:36:13
+node-at-requires : tie.Need-node-at-requires Inv-loop μ-loop
+node-at-requires c κs = search needs
+
+-- src/step.rt:38:13
+returns-4 : tie.Need-returns-4 Inv-loop μ-loop
+returns-4 c = search (needs, named-stays)
+
+-- src/step.rt:40:17
+add-least : tie.Need-add-least Inv-loop μ-loop
+add-least c = search needs
+
+-- src/step.rt:41:9
+add-i : tie.Need-add-i Inv-loop μ-loop
+add-i c = search needs
+
+-- src/step.rt:24:5
+loop-less : tie.Need-loop-less Inv-loop μ-loop
+loop-less c = search needs
+
+-- src/step.rt:24:5
+loop-again : tie.Need-loop-again Inv-loop μ-loop
+loop-again c =
+    let k3 = c .before .before in
+    let k2 = k3 .before .before in
+    let k1 = k2 .before in
+    let vm = k1 .before in
+    let test = vm .before in
+    let head = test .before in
+    let moves = head .before in
+    let nodes = moves .before in
+    let vms = nodes .before in (
+      omega arith,
+      omega arith,
+      named-more _ _ _ _ _ _ _ _ _ (vm .move-vm .ensures) (moves .move-count .ensures .0) (head .loop .inv .2) (test .loop-test .taken)
+          _ (vms .vm-count .ensures .0) (k1 .if1 .left) _ _ (c .before .before .before .move-to .ensures) (nodes .node-count .ensures .0)
+          (k2 .if2 .left) _ (c .before .node-at .ensures .0) (k3 .if3 .left) (c .if4 .left),
+    )
+
+-- src/step.rt:15:1
+returns-5 : tie.Need-returns-5 Inv-loop μ-loop
+returns-5 c = search (needs, named-end)
+
+pub well-named-spec : {M : Type 1} → statement M
+well-named-spec =
+    tie.close
+    (tie.spec
+    Inv-loop
+    μ-loop
+    vm-count-requires
+    node-count-requires
+    move-count-requires
+    loop-holds
+    move-vm-requires
+    cast-v
+    returns
+    returns-2
+    move-to-requires
+    cast-d
+    returns-3
+    node-at-requires
+    returns-4
+    add-least
+    add-i
+    loop-less
+    loop-again
+    returns-5)

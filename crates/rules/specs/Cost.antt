@@ -1,0 +1,23 @@
+-- What a plan costs: Entropy's estimate, its equations (6) to (8) (01, "Cost").
+use Prim.Native.Nat.{ℕ, _+_, max}
+use mathlib.Core.List.{List, [], _∷_}
+use Rattle.records.specs.Base.{sumOf}
+use Rattle.records.specs.Room.{Room, vmOf}
+use Rattle.records.specs.Plan.{Move, Step}
+
+-- the memory that a move copies
+unfoldable pub memoryOf : Room → Move → ℕ
+memoryOf room move = vmOf room (move .vm) .memory
+
+-- (8) a step costs the largest memory that it moves
+unfoldable pub stepCost : Room → Step → ℕ
+stepCost room [] = 0
+stepCost room (move ∷ moves) = max (memoryOf room move) (stepCost room moves)
+
+-- (7) a move costs its memory and the costs of all steps before it; (6) steps cost the sum over their moves
+unfoldable pub costFrom : Room → ℕ → List Step → ℕ
+costFrom room before [] = 0
+costFrom room before (step ∷ steps) = sumOf (λ move. memoryOf room move + before) step + costFrom room (before + stepCost room step) steps
+
+unfoldable pub costOf : Room → List Step → ℕ
+costOf room steps = costFrom room 0 steps

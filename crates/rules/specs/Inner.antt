@@ -1,0 +1,139 @@
+-- What inner functions answer, on the way to the definitions before. Nothing here has to be believed.
+use Prim.Native.Nat.{ℕ, zero, suc, _+_, _-_, _*_, _<_, _≤_, _^_}
+use mathlib.Core.Bool.{Bool, true, false, not, _&&_, _||_}
+use mathlib.Core.List.{List, [], _∷_}
+use mathlib.Core.Path.{_≡_}
+use lib.ListN.{length, getD, set, take, replicate}
+use lib.Dec.{ltb, leb, eqb}
+use Rattle.records.specs.Base.{pick, all}
+use Rattle.records.specs.Room.{Constraint, ban, fence, spread, latency, Room, vmOf, nodeOf, roomOf, nodeCount, vmCount, constraintOf}
+use Rattle.records.specs.Plan.{Move, Step, moveOf}
+use Rattle.rules.specs.Moments.{Placement, placeOf, Phase, idle, waiting, running, ended, Cell, cell, Moment, cellsFrom, allRunning, phaseOf, tallyAt, emptyTally, within}
+use Rattle.rules.specs.Rules.{allowed}
+use Rattle.rules.specs.declared.tally.Need.{Need}
+use Rattle.rules.specs.declared.tally.Tally.{Tally}
+
+-- what a VM needs, with its bounds
+pub record NeedOf (room : Room) (v : ℕ) (need : Need) : Type 0 where
+  pub memory : need .memory ≡ vmOf room v .memory
+  pub cpu : need .cpu ≡ vmOf room v .cpu
+  pub memory-most : need .memory < 2 ^ 24
+  pub cpu-most : need .cpu < 2 ^ 16
+
+-- an array holds a placement of the room of a record: its first places, and all are nodes that there are
+pub record Holds (s places : List ℕ) (placement : Placement) : Type 0 where
+  pub is : take (vmCount s) places ≡ placement
+  pub below : (v : ℕ) → getD places v 0 < nodeCount s
+
+-- the first v places of an array are those of a placement
+pub record Filling (s places : List ℕ) (placement : Placement) (v : ℕ) : Type 0 where
+  pub size : length places ≡ 256
+  pub is : take v places ≡ take v placement
+  pub below : (u : ℕ) → getD places u 0 < nodeCount s
+
+-- the destination of each VM, 64 where it has no move
+unfoldable pub destsFrom : Step → List ℕ
+destsFrom [] = replicate 256 64
+destsFrom (move ∷ moves) = set (destsFrom moves) (move .vm) (move .to)
+
+-- the placement that an array holds
+unfoldable pub held : List ℕ → List ℕ → Placement
+held s places = take (vmCount s) places
+
+-- the cells of n VMs from v on, with the destinations of an array: 64 is none
+unfoldable pub goalIn : List ℕ → ℕ → Phase
+goalIn dests v = pick (eqb (getD dests v 0) 64) idle (running (getD dests v 0))
+
+unfoldable pub busyFrom : List ℕ → List ℕ → ℕ → ℕ → Moment
+busyFrom places dests v zero = []
+busyFrom places dests v (suc n) = cell v (getD places v 0) (goalIn dests v) ∷ busyFrom places dests (suc v) n
+
+-- places and destinations are such that a tally can be kept: nodes or 64, and no VM goes where it is
+pub record Ready (s places dests : List ℕ) : Type 0 where
+  pub place : (v : ℕ) → v < vmCount s → getD places v 0 < 64
+  pub most : (v : ℕ) → v < vmCount s → getD dests v 0 ≤ 64
+  pub leaves : (v : ℕ) → v < vmCount s → getD dests v 0 ≡ getD places v 0 → ⊥
+
+-- the sums over the VMs from v on
+pub record Loaded (s places dests : List ℕ) (v : ℕ) (sums : List Tally) : Type 0 where
+  pub size : length sums ≡ 65
+  pub each : (d : ℕ) → d < 64 → getD sums d emptyTally ≡ tallyAt (roomOf s) d (busyFrom places dests v (vmCount s - v))
+  pub memory-most : (d : ℕ) → getD sums d emptyTally .memory ≤ (vmCount s - v) * 16777216
+  pub cpu-most : (d : ℕ) → getD sums d emptyTally .cpu ≤ (vmCount s - v) * 65536
+
+-- the sums over all VMs
+pub record Loads (s places dests : List ℕ) (sums : List Tally) : Type 0 where
+  pub each : (d : ℕ) → d < 64 → getD sums d emptyTally ≡ tallyAt (roomOf s) d (busyFrom places dests 0 (vmCount s))
+
+-- each destination of a step is a node that there is
+pub record Aimed (s : List ℕ) (step : Step) : Type 0 where
+  pub each : (i : ℕ) → i < length step → moveOf step i .to < nodeCount s
+
+-- the tally of each destination, as the sums have it, is within what the node has
+unfoldable pub fitsIn : Room → List Tally → Step → Bool
+fitsIn room sums step = all (λ move. within (nodeOf room (move .to)) (getD sums (move .to) emptyTally)) step
+
+-- ---- where each VM may go, as a table of 64 marks a VM
+
+abbrev pub keptMark : ℕ → ℕ → ℕ
+keptMark stop old = pick (eqb stop 0) old 0
+
+-- the first d marks of the row of VM v, without the stopped nodes
+unfoldable pub rowKept : List ℕ → List ℕ → ℕ → ℕ → List ℕ
+rowKept table stop v zero = table
+rowKept table stop v (suc d) =
+    set (rowKept table stop v d) (v * 64 + d) (keptMark (getD stop d 0) (getD (rowKept table stop v d) (v * 64 + d) 0))
+
+unfoldable pub listKept : List ℕ → List ℕ → List ℕ → List ℕ
+listKept table stop [] = table
+listKept table stop (v ∷ vs) = listKept (rowKept table stop v 64) stop vs
+
+-- marks for nodes
+unfoldable pub stopped : List ℕ → ℕ → List ℕ → List ℕ
+stopped marks mark [] = marks
+stopped marks mark (d ∷ ds) = stopped (set marks d mark) mark ds
+
+-- what a constraint takes away
+unfoldable pub applied : List ℕ → Constraint → List ℕ
+applied table (ban vms nodes) = listKept table (stopped (replicate 64 0) 1 nodes) vms
+applied table (fence vms nodes) = listKept table (stopped (replicate 64 1) 0 nodes) vms
+applied table (spread vms) = table
+applied table (latency vms groups) = table
+
+unfoldable pub appliedAll : List ℕ → List (List ℕ) → List ℕ
+appliedAll table [] = table
+appliedAll table (p ∷ ps) = appliedAll (applied table (constraintOf p)) ps
+
+-- the table tells where each VM may go
+pub record Allows (s table : List ℕ) : Type 0 where
+  pub each : (v d : ℕ) → v < vmCount s → d < 64 → getD table (v * 64 + d) 0 ≡ pick (allowed (roomOf s) v d) 1 0
+
+-- ---- spreads
+
+-- each element is a node or 64
+pub record Nodes (l : List ℕ) : Type 0 where
+  pub each : (v : ℕ) → getD l v 0 ≤ 64
+
+-- marks where VMs start
+unfoldable pub startMarks : List ℕ → List ℕ → List ℕ → List ℕ
+startMarks marks places [] = marks
+startMarks marks places (v ∷ vs) = startMarks (set marks (getD places v 0) 1) places vs
+
+-- 64 is never marked
+abbrev pub markOf : ℕ → ℕ
+markOf d = pick (ltb d 64) 1 0
+
+-- each VM arrives at an unmarked node, which is then marked
+unfoldable pub goUnmet : List ℕ → List ℕ → List ℕ → Bool
+goUnmet marks dests [] = true
+goUnmet marks dests (v ∷ vs) =
+    pick (eqb (getD marks (getD dests v 0) 0) 0) (goUnmet (set marks (getD dests v 0) (markOf (getD dests v 0))) dests vs) false
+
+unfoldable pub listUnmet : List ℕ → List ℕ → List ℕ → Bool
+listUnmet places dests vms = goUnmet (startMarks (replicate 65 0) places vms) dests vms
+
+unfoldable pub spreadOk : List ℕ → List ℕ → Constraint → Bool
+spreadOk places dests (ban vms nodes) = true
+spreadOk places dests (fence vms nodes) = true
+spreadOk places dests (spread vms) = listUnmet places dests vms
+spreadOk places dests (latency vms groups) = true

@@ -1,0 +1,99 @@
+-- Which destinations are allowed, what the target owes, and the faults of a step (01, "Numbers of the refusals", 8, 9, 15 to 18).
+use Prim.Native.Nat.{ℕ, zero, suc}
+use mathlib.Core.Bool.{Bool, true, false, not, _&&_, _||_}
+use mathlib.Core.List.{List, [], _∷_}
+use lib.ListN.{length}
+use lib.Dec.{ltb, leb, eqb}
+use Rattle.records.specs.Base.{pick, all}
+use Rattle.records.specs.Room.{Constraint, ban, fence, spread, latency, has, vmsOf, Room, nodeOf, vmOf}
+use Rattle.records.specs.Plan.{Move, Step}
+use Rattle.rules.specs.Moments.{Placement, placeOf, targetOf, Moment, within, tallyAt, firstMoment, allRunning}
+use Rattle.rules.specs.Orders.{some, meetsMate}
+use Rattle.rules.specs.declared.faults.TargetFault.{TargetFault}
+use Rattle.rules.specs.declared.faults.TargetFault.the-variants.{Overfull, Broken}
+use Rattle.rules.specs.declared.faults.TargetCheck.{TargetCheck}
+use Rattle.rules.specs.declared.faults.TargetCheck.the-variants.{Reachable, Unreachable}
+use Rattle.rules.specs.declared.faults.StepFault.{StepFault}
+use Rattle.rules.specs.declared.faults.StepFault.the-variants.{Misnamed, Forbidden, Misfit, Mate}
+use Rattle.rules.specs.declared.faults.StepCheck.{StepCheck}
+use Rattle.rules.specs.declared.faults.StepCheck.the-variants.{Sound, Faulty}
+
+-- ---- destinations
+
+-- the nodes that a constraint keeps its VMs from: a ban those it names, a fence all others
+unfoldable pub keepsFrom : Constraint → ℕ → Bool
+keepsFrom (ban vms nodes) d = has nodes d
+keepsFrom (fence vms nodes) d = not (has nodes d)
+keepsFrom (spread vms) d = false
+keepsFrom (latency vms groups) d = false
+
+-- VM v may go to node d: no constraint that names v keeps it from d
+unfoldable pub allowed : Room → ℕ → ℕ → Bool
+allowed room v d = all (λ k. not (has (vmsOf k) v && keepsFrom k d)) (room .constraints)
+
+-- ---- the target
+
+-- the numbers below n
+unfoldable pub from : ℕ → ℕ → List ℕ
+from v zero = []
+from v (suc n) = v ∷ from (suc v) n
+
+-- 8: the tally of every node, all VMs at rest on a placement, is within what the node has
+unfoldable pub fitsAll : Room → Placement → Bool
+fitsAll room places = all (λ d. within (nodeOf room d) (tallyAt room d (firstMoment room places []))) (from 0 (length (room .nodes)))
+
+-- no two of the VMs share a node
+unfoldable pub spreadOut : Placement → List ℕ → Bool
+spreadOut places [] = true
+spreadOut places (v ∷ vs) = all (λ w. not (eqb (placeOf places v) (placeOf places w))) vs && spreadOut places vs
+
+-- 9: a placement keeps a constraint
+unfoldable pub keeps : Placement → Constraint → Bool
+keeps places (ban vms nodes) = all (λ v. not (has nodes (placeOf places v))) vms
+keeps places (fence vms nodes) = all (λ v. has nodes (placeOf places v)) vms
+keeps places (spread vms) = spreadOut places vms
+keeps places (latency vms groups) = eqb (length vms) 0 || some (λ g. all (λ v. has g (placeOf places v)) vms) groups
+
+-- the target's fault
+unfoldable pub targetCheck : Room → TargetCheck
+targetCheck room =
+    pick (not (fitsAll room (targetOf room))) (Unreachable Overfull)
+    (pick (not (all (keeps (targetOf room)) (room .constraints))) (Unreachable Broken)
+    Reachable)
+
+-- ---- a step
+
+-- 15: each VM is there and above the one before it (`least` is the least that may come), each destination is there and not its source
+unfoldable pub named : Room → Placement → ℕ → Step → Bool
+named room places least [] = true
+named room places least (move ∷ moves) =
+    (leb least (move .vm) && ltb (move .vm) (length (room .vms))) &&
+    ((ltb (move .to) (length (room .nodes)) && not (eqb (move .to) (placeOf places (move .vm)))) && named room places (suc (move .vm)) moves)
+
+-- 16
+unfoldable pub permitted : Room → Step → Bool
+permitted room step = all (λ move. allowed room (move .vm) (move .to)) step
+
+-- 17, as it is decided: with every move running, the tally of each destination is within what the node has. (Promises says what it
+-- means, over every order, and that the two agree.)
+unfoldable pub fitting : Room → Placement → Step → Bool
+fitting room places step =
+    all (λ move. within (nodeOf room (move .to)) (tallyAt room (move .to) (allRunning (firstMoment room places step)))) step
+
+-- 18, as it is decided: with every move running, no mate of a moved VM counts on its destination
+unfoldable pub unmet : Room → Placement → Step → Bool
+unmet room places step =
+    all (λ move. not (meetsMate room (allRunning (firstMoment room places step)) (move .vm) (move .to))) step
+
+-- the first fault of a step in checking order
+unfoldable pub stepCheck : Room → Placement → Step → StepCheck
+stepCheck room places step =
+    pick (not (named room places 0 step)) (Faulty Misnamed)
+    (pick (not (permitted room step)) (Faulty Forbidden)
+    (pick (not (fitting room places step)) (Faulty Misfit)
+    (pick (not (unmet room places step)) (Faulty Mate)
+    Sound)))
+
+-- a step is sound: it has none of the faults
+unfoldable pub soundStep : Room → Placement → Step → Bool
+soundStep room places step = named room places 0 step && (permitted room step && (fitting room places step && unmet room places step))

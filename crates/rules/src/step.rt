@@ -1,0 +1,83 @@
+// A step against a placement: refusals 15 to 18.
+use crate::places::node_at;
+use crate::tally::Tally;
+use crate::tally::need_of;
+use crate::tally::within_node;
+ghost use mathlib.Core.Path.{_≡_};
+ghost use Prim.Native.Nat.{_≤_};
+ghost use lib.ListN.{length};
+ghost use Rattle.records.specs.Room.{roomOf, clusterCheck};
+ghost use Rattle.records.specs.Plan.{stepAt, stepEnd};
+ghost use Rattle.records.specs.declared.faults.ClusterCheck.{ClusterCheck};
+ghost use Rattle.rules.specs.Rules.{named};
+ghost use Rattle.rules.specs.Inner.{held, Ready, Loads, Aimed, fitsIn};
+
+// 15: whether each VM and destination is there, the VMs rise, and no destination is its source.
+pub fn well_named(cluster: &[u8], plan: &[u8], at: usize, places: &[u8; 256]) -> bool
+    requires { ⌜ (clusterCheck (now cluster) ≡ ClusterCheck.Whole) × (stepEnd (now plan) at ≤ length (now plan)) ⌝ }
+    ensures { λ r. ⌜ r ≡ named (roomOf (now (cluster .entry))) (held (now (cluster .entry)) (now (places .entry))) 0 (stepAt (now (plan .entry)) at) ⌝ }
+{
+    let vms = records::vm_count(cluster);
+    let nodes = records::node_count(cluster);
+    let n = records::move_count(plan, at);
+    let mut least: usize = 0;
+    let mut i: usize = 0;
+    while i < n {
+        let v = records::move_vm(plan, at, i) as usize;
+        if v < least {
+            return false;
+        }
+        if vms <= v {
+            return false;
+        }
+        let d = records::move_to(plan, at, i) as usize;
+        if nodes <= d {
+            return false;
+        }
+        let p = node_at(places, v);
+        if d == p {
+            return false;
+        }
+        least = v + 1;
+        i += 1;
+    }
+    true
+}
+
+// The tally of each node with every move running. Where a VM has no move, its destination is 64, which is no node.
+pub fn loads(cluster: &[u8], places: &[u8; 256], dests: &[u8; 256]) -> [Tally; 65]
+    requires { ⌜ (clusterCheck (now cluster) ≡ ClusterCheck.Whole) × Ready (now cluster) (now places) (now dests) ⌝ }
+    ensures { λ r. ⌜ Loads (now (cluster .entry)) (now (places .entry)) (now (dests .entry)) r ⌝ }
+{
+    let mut sums = [Tally::EMPTY; 65];
+    let mut v = records::vm_count(cluster);
+    while 0 < v {
+        v -= 1;
+        let vm = need_of(cluster, v);
+        let p = node_at(places, v);
+        let here = sums[p];
+        sums[p] = here.with(vm);
+        let d = node_at(dests, v);
+        let there = sums[d];
+        sums[d] = there.with(vm);
+    }
+    sums
+}
+
+// 17: whether the tally of each destination, with every move running, is within what the node has.
+pub fn fits_running(cluster: &[u8], plan: &[u8], at: usize, sums: [Tally; 65]) -> bool
+    requires { ⌜ (clusterCheck (now cluster) ≡ ClusterCheck.Whole) × (stepEnd (now plan) at ≤ length (now plan)) × Aimed (now cluster) (stepAt (now plan) at) ⌝ }
+    ensures { λ r. ⌜ r ≡ fitsIn (roomOf (now (cluster .entry))) sums (stepAt (now (plan .entry)) at) ⌝ }
+{
+    let n = records::move_count(plan, at);
+    let mut i: usize = 0;
+    while i < n {
+        let d = records::move_to(plan, at, i) as usize;
+        let t = sums[d];
+        if !within_node(cluster, d, t) {
+            return false;
+        }
+        i += 1;
+    }
+    true
+}

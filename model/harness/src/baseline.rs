@@ -1,0 +1,406 @@
+//! A simple checker of the same rules in plain Rust, coded for speed measurements.
+//!
+//! It reads the lent bytes in place and keeps a mask of open nodes for each VM, a mask of VMs for
+//! each spread, and for each node its sums and a mask of the VMs on it.
+
+const ACCEPTED: u64 = 0;
+const REFUSED: u64 = 2 << 62;
+
+/// A refusal's number and step.
+type Fault = (u8, u16);
+
+/// Checks a plan for a cluster; the packed verdict.
+pub fn check(cluster: &[u8], plan: &[u8]) -> u64 {
+    match verdict(cluster, plan) {
+        Ok(cost) => ACCEPTED | cost,
+        Err((number, step)) => REFUSED | u64::from(number) << 16 | u64::from(step),
+    }
+}
+
+fn verdict(cluster: &[u8], plan: &[u8]) -> Result<u64, Fault> {
+    let room = read_room(cluster).map_err(|number| (number, 0))?;
+    let steps = plan_shape(plan).ok_or_else(|| (shape_fault(plan), 0))?;
+    run(&room, steps)
+}
+
+// ---------------------------------------------------------------- the cluster record
+
+/// A cluster record, read. Arrays are as long as the largest room needs.
+struct Room {
+    n: usize,
+    v: usize,
+    node_memory: [u64; 64],
+    node_cpu: [u64; 64],
+    memory: [u64; 256],
+    cpu: [u64; 256],
+    current: [u8; 256],
+    target: [u8; 256],
+    open: [u64; 256],
+    spreads: Vec<VmMask>,
+}
+
+/// A set of VMs, a bit each.
+type VmMask = [u64; 4];
+
+fn put_in(mask: &mut VmMask, vm: u8) {
+    mask[usize::from(vm / 64)] |= 1 << (vm % 64);
+}
+
+fn take_out(mask: &mut VmMask, vm: u8) {
+    mask[usize::from(vm / 64)] &= !(1 << (vm % 64));
+}
+
+fn has(mask: &VmMask, vm: u8) -> bool {
+    mask[usize::from(vm / 64)] >> (vm % 64) & 1 == 1
+}
+
+fn meet(a: &VmMask, b: &VmMask) -> bool {
+    a.iter().zip(b).any(|(x, y)| x & y != 0)
+}
+
+fn be16(b: &[u8]) -> usize {
+    usize::from(b[0]) << 8 | usize::from(b[1])
+}
+
+fn be24(b: &[u8]) -> u64 {
+    u64::from(b[0]) << 16 | u64::from(b[1]) << 8 | u64::from(b[2])
+}
+
+fn stated_length(b: &[u8]) -> usize {
+    u32::from_be_bytes([b[1], b[2], b[3], b[4]]) as usize
+}
+
+/// Reads a cluster record; the error is the refusal number, 1 to 9.
+fn read_room(bytes: &[u8]) -> Result<Room, u8> {
+    if bytes.len() < 11 {
+        return Err(1);
+    }
+    if bytes[0] != 1 {
+        return Err(2);
+    }
+    if stated_length(bytes) != bytes.len() || bytes.len() > 65_535 {
+        return Err(3);
+    }
+    let (n, v, c) = (be16(&bytes[5..]), be16(&bytes[7..]), be16(&bytes[9..]));
+    if n == 0 || n > 64 || v > 256 || c > 128 {
+        return Err(4);
+    }
+    let vms_at = 11 + 5 * n;
+    let constraints_at = vms_at + 7 * v;
+    let constraints = bytes.get(constraints_at..).ok_or(5)?;
+    if !constraints_fill(constraints, c) {
+        return Err(5);
+    }
+    let mut room = empty_room(n, v);
+    read_nodes(&mut room, &bytes[11..vms_at]);
+    read_vms(&mut room, &bytes[vms_at..constraints_at]).ok_or(6)?;
+    let kept = read_constraints(&mut room, constraints).ok_or(7)?;
+    target_fits(&room).ok_or(8)?;
+    (kept && target_is_open(&room)).then_some(room).ok_or(9)
+}
+
+fn empty_room(n: usize, v: usize) -> Room {
+    Room {
+        n,
+        v,
+        node_memory: [0; 64],
+        node_cpu: [0; 64],
+        memory: [0; 256],
+        cpu: [0; 256],
+        current: [0; 256],
+        target: [0; 256],
+        open: [u64::MAX; 256],
+        spreads: Vec::new(),
+    }
+}
+
+/// Whether the constraints, by their stated lengths, fill these bytes.
+fn constraints_fill(mut rest: &[u8], c: usize) -> bool {
+    for _ in 0..c {
+        if rest.len() < 2 || rest.len() - 2 < be16(rest) {
+            return false;
+        }
+        rest = &rest[2 + be16(rest)..];
+    }
+    rest.is_empty()
+}
+
+fn read_nodes(room: &mut Room, rows: &[u8]) {
+    for (i, row) in rows.chunks_exact(5).enumerate() {
+        room.node_memory[i] = be24(row);
+        room.node_cpu[i] = be16(&row[3..]) as u64;
+    }
+}
+
+/// Reads the VM rows; `None` is fault 6.
+fn read_vms(room: &mut Room, rows: &[u8]) -> Option<()> {
+    for (i, row) in rows.chunks_exact(7).enumerate() {
+        room.memory[i] = be24(row);
+        room.cpu[i] = be16(&row[3..]) as u64;
+        room.current[i] = row[5];
+        room.target[i] = row[6];
+        let known = usize::from(row[5]) < room.n && usize::from(row[6]) < room.n;
+        if room.memory[i] == 0 || !known {
+            return None;
+        }
+    }
+    Some(())
+}
+
+/// Reads all constraints; `None` is fault 7. Says whether the target keeps spreads and latencies.
+fn read_constraints(room: &mut Room, mut rest: &[u8]) -> Option<bool> {
+    let mut kept = true;
+    while !rest.is_empty() {
+        let (body, behind) = rest[2..].split_at(be16(rest));
+        kept &= read_constraint(room, body)?;
+        rest = behind;
+    }
+    Some(kept)
+}
+
+fn read_constraint(room: &mut Room, body: &[u8]) -> Option<bool> {
+    let (&kind, mut rest) = body.split_first()?;
+    if !(1..=4).contains(&kind) {
+        return None;
+    }
+    let vms = vm_list(&mut rest, room.v)?;
+    let kept = match kind {
+        1 => {
+            let nodes = node_list(&mut rest, room.n)?;
+            vms.iter().for_each(|&vm| room.open[usize::from(vm)] &= !nodes);
+            true
+        }
+        2 => {
+            let nodes = node_list(&mut rest, room.n)?;
+            vms.iter().for_each(|&vm| room.open[usize::from(vm)] &= nodes);
+            true
+        }
+        3 => read_spread(room, vms),
+        _ => latency_kept(room, vms, &mut rest)?,
+    };
+    rest.is_empty().then_some(kept)
+}
+
+/// The VM list in front; `None` if it is cut short, does not rise or names an unknown VM.
+fn vm_list<'a>(rest: &mut &'a [u8], v: usize) -> Option<&'a [u8]> {
+    let length = be16(rest.get(..2)?);
+    let list = rest.get(2..2 + length)?;
+    *rest = &rest[2 + length..];
+    rises_below(list, v).then_some(list)
+}
+
+/// The node list in front, as a mask.
+fn node_list(rest: &mut &[u8], n: usize) -> Option<u64> {
+    let length = usize::from(*rest.first()?);
+    let list = rest.get(1..1 + length)?;
+    *rest = &rest[1 + length..];
+    rises_below(list, n).then(|| list.iter().fold(0, |mask, &node| mask | 1 << node))
+}
+
+fn rises_below(list: &[u8], limit: usize) -> bool {
+    let rises = list.windows(2).all(|pair| pair[0] < pair[1]);
+    rises && list.last().is_none_or(|&last| usize::from(last) < limit)
+}
+
+/// Keeps a spread of two or more for the steps, and says whether the target keeps it.
+fn read_spread(room: &mut Room, vms: &[u8]) -> bool {
+    let mut mask = VmMask::default();
+    vms.iter().for_each(|&vm| put_in(&mut mask, vm));
+    if vms.len() > 1 {
+        room.spreads.push(mask);
+    }
+    targets(room, vms).count_ones() as usize == vms.len()
+}
+
+/// The targets of some VMs, as a mask of nodes.
+fn targets(room: &Room, vms: &[u8]) -> u64 {
+    vms.iter().fold(0, |mask, &vm| mask | 1 << room.target[usize::from(vm)])
+}
+
+/// Reads a latency's groups, and says whether one of them has all the targets.
+fn latency_kept(room: &Room, vms: &[u8], rest: &mut &[u8]) -> Option<bool> {
+    let (&groups, behind) = rest.split_first()?;
+    *rest = behind;
+    if groups > 64 {
+        return None;
+    }
+    let targets = targets(room, vms);
+    let mut kept = vms.is_empty();
+    let mut taken = 0u64;
+    for _ in 0..groups {
+        let group = node_list(rest, room.n)?;
+        if taken & group != 0 {
+            return None;
+        }
+        taken |= group;
+        kept |= targets & !group == 0;
+    }
+    Some(kept)
+}
+
+fn target_fits(room: &Room) -> Option<()> {
+    let sums = Sums::of(room, &room.target);
+    (0..room.n).all(|node| sums.fit(room, node)).then_some(())
+}
+
+/// Whether every VM's target is open to it: bans and fences.
+fn target_is_open(room: &Room) -> bool {
+    (0..room.v).all(|vm| room.open[vm] >> room.target[vm] & 1 == 1)
+}
+
+/// Memory and CPU counted on each node.
+struct Sums {
+    memory: [u64; 64],
+    cpu: [u64; 64],
+}
+
+impl Sums {
+    fn of(room: &Room, place: &[u8; 256]) -> Sums {
+        let mut sums = Sums { memory: [0; 64], cpu: [0; 64] };
+        for (vm, &node) in place[..room.v].iter().enumerate() {
+            sums.add(room, vm, node);
+        }
+        sums
+    }
+
+    fn add(&mut self, room: &Room, vm: usize, node: u8) {
+        self.memory[usize::from(node)] += room.memory[vm];
+        self.cpu[usize::from(node)] += room.cpu[vm];
+    }
+
+    fn take(&mut self, room: &Room, vm: usize, node: u8) {
+        self.memory[usize::from(node)] -= room.memory[vm];
+        self.cpu[usize::from(node)] -= room.cpu[vm];
+    }
+
+    fn fit(&self, room: &Room, node: usize) -> bool {
+        self.memory[node] <= room.node_memory[node] && self.cpu[node] <= room.node_cpu[node]
+    }
+}
+
+// ---------------------------------------------------------------- the plan record
+
+/// The steps' bytes, if the plan has none of the faults 11 to 14.
+fn plan_shape(plan: &[u8]) -> Option<&[u8]> {
+    if plan.len() < 7 || plan[0] != 1 || stated_length(plan) != plan.len() {
+        return None;
+    }
+    let steps = be16(&plan[5..]);
+    (steps <= 512 && steps_fill(&plan[7..], steps)).then(|| &plan[7..])
+}
+
+fn steps_fill(mut rest: &[u8], steps: usize) -> bool {
+    let mut all = 0;
+    for _ in 0..steps {
+        if rest.len() < 2 {
+            return false;
+        }
+        let moves = be16(rest);
+        all += moves;
+        if moves == 0 || moves > 256 || all > 1_024 || rest.len() < 2 + 2 * moves {
+            return false;
+        }
+        rest = &rest[2 + 2 * moves..];
+    }
+    rest.is_empty()
+}
+
+/// Which fault of shape a plan has that has one.
+fn shape_fault(plan: &[u8]) -> u8 {
+    match plan {
+        _ if plan.len() < 7 => 11,
+        _ if plan[0] != 1 => 12,
+        _ if stated_length(plan) != plan.len() => 13,
+        _ => 14,
+    }
+}
+
+// ---------------------------------------------------------------- the steps
+
+/// Where VMs are between steps: each VM's node, and what is on each node.
+struct Here {
+    place: [u8; 256],
+    sums: Sums,
+    vms_on: [VmMask; 64],
+}
+
+fn start(room: &Room) -> Here {
+    let mut vms_on = [VmMask::default(); 64];
+    for (vm, &node) in room.current[..room.v].iter().enumerate() {
+        put_in(&mut vms_on[usize::from(node)], vm as u8);
+    }
+    Here { place: room.current, sums: Sums::of(room, &room.current), vms_on }
+}
+
+/// Goes through the steps; the cost, or the first fault.
+fn run(room: &Room, mut rest: &[u8]) -> Result<u64, Fault> {
+    let mut here = start(room);
+    let (mut cost, mut earlier, mut step) = (0, 0, 0);
+    while !rest.is_empty() {
+        let (moves, behind) = rest[2..].split_at(2 * be16(rest));
+        rest = behind;
+        step += 1;
+        let number = step_fault(room, &mut here, moves);
+        if number != 0 {
+            return Err((number, step));
+        }
+        let mut largest = 0;
+        for m in moves.chunks_exact(2) {
+            let memory = room.memory[usize::from(m[0])];
+            cost += memory + earlier;
+            largest = largest.max(memory);
+            end(room, &mut here, m[0], m[1]);
+        }
+        earlier += largest;
+    }
+    if here.place[..room.v] != room.target[..room.v] {
+        return Err((19, 0));
+    }
+    Ok(cost)
+}
+
+/// Ends a move: its VM leaves its source.
+fn end(room: &Room, here: &mut Here, vm: u8, to: u8) {
+    let from = std::mem::replace(&mut here.place[usize::from(vm)], to);
+    here.sums.take(room, usize::from(vm), from);
+    take_out(&mut here.vms_on[usize::from(from)], vm);
+}
+
+/// The fault of a step, or 0. Counts the arrivals on their destinations; those who leave are
+/// still on their sources.
+fn step_fault(room: &Room, here: &mut Here, moves: &[u8]) -> u8 {
+    if !well_named(room, &here.place, moves) {
+        return 15;
+    }
+    let each = || moves.chunks_exact(2).map(|m| (m[0], m[1]));
+    if !each().all(|(vm, to)| room.open[usize::from(vm)] >> to & 1 == 1) {
+        return 16;
+    }
+    each().for_each(|(vm, to)| here.sums.add(room, usize::from(vm), to));
+    if !each().all(|(_, to)| here.sums.fit(room, usize::from(to))) {
+        return 17;
+    }
+    if each().any(|(vm, to)| meets_mate(room, &mut here.vms_on[usize::from(to)], vm)) {
+        return 18;
+    }
+    0
+}
+
+fn well_named(room: &Room, place: &[u8; 256], moves: &[u8]) -> bool {
+    let mut least = 0;
+    for m in moves.chunks_exact(2) {
+        let (vm, to) = (usize::from(m[0]), usize::from(m[1]));
+        if vm < least || vm >= room.v || to >= room.n || place[vm] == m[1] {
+            return false;
+        }
+        least = vm + 1;
+    }
+    true
+}
+
+/// Whether a VM that arrives has a mate among those on the node; then it is one of them too.
+fn meets_mate(room: &Room, there: &mut VmMask, vm: u8) -> bool {
+    let met = room.spreads.iter().any(|spread| has(spread, vm) && meet(spread, there));
+    put_in(there, vm);
+    met
+}

@@ -1,0 +1,147 @@
+//! Measures the library's `check` beside the baseline on the inputs of `inputs`, after comparing
+//! library, baseline and model on each. Buffers are not cleared between calls, so caches are warm.
+
+use kobdrieft_harness::inputs::{all, Input};
+use kobdrieft_harness::{baseline, check, streams};
+use kobdrieft_model as model;
+use kobdrieft_model::edges::edges;
+use kobdrieft_model::gen::{cases, Rng};
+use std::hint::black_box;
+use std::process::exit;
+use std::time::{Duration, Instant};
+
+/// Rounds for each input. The two sides take turns.
+const ROUNDS: usize = 21;
+
+/// How long one side's round is to take.
+const ROUND: Duration = Duration::from_millis(10);
+
+fn main() {
+    let inputs = all();
+    print_list(&inputs);
+    inputs.iter().for_each(verify);
+    println!("\nlibrary, baseline and model agree on all inputs");
+    println!("baseline and model agree on {} more\n", verify_baseline());
+    print_table(&inputs);
+}
+
+fn print_list(inputs: &[Input]) {
+    println!(
+        "{:<22}{:>6}{:>5}{:>13}{:>7}{:>7}  outcome",
+        "input", "nodes", "VMs", "constraints", "steps", "moves"
+    );
+    for input in inputs {
+        let (nodes, vms) = (input.room.nodes.len(), input.room.vms.len());
+        let (constraints, steps) = (input.room.constraints.len(), input.steps.len());
+        let moves: usize = input.steps.iter().map(Vec::len).sum();
+        let outcome = match input.outcome {
+            None => "accepted".to_string(),
+            Some((number, step)) => format!("{number}, step {step}"),
+        };
+        println!(
+            "{:<22}{nodes:>6}{vms:>5}{constraints:>13}{steps:>7}{moves:>7}  {outcome}",
+            input.name
+        );
+    }
+}
+
+// ---------------------------------------------------------------- results first
+
+/// Stops unless the input is what it was made to be and all three checkers say so.
+fn verify(input: &Input) {
+    let verdict = model::check(&input.cluster, &input.plan);
+    let outcome = match verdict {
+        model::Verdict::Accepted { .. } => None,
+        model::Verdict::Refused { number, step } => Some((number, step)),
+    };
+    expect(outcome == input.outcome, input.name, "the model's outcome is another");
+    let packed = model::pack_verdict(verdict);
+    expect(check(&input.cluster, &input.plan) == packed, input.name, "the library differs");
+    let simple = baseline::check(&input.cluster, &input.plan);
+    expect(simple == packed, input.name, "the baseline differs");
+}
+
+/// Compares the baseline with the model on other inputs; how many.
+fn verify_baseline() -> usize {
+    let mut compared = 0;
+    let mut compare = |cluster: &[u8], plan: &[u8]| {
+        let packed = model::pack_verdict(model::check(cluster, plan));
+        expect(
+            baseline::check(cluster, plan) == packed,
+            "a generated input",
+            "the baseline differs",
+        );
+        compared += 1;
+    };
+    edges().iter().for_each(|edge| compare(&edge.cluster, &edge.plan));
+    cases(1, 20_000).for_each(|case| compare(&case.cluster, &case.plan));
+    let mut rng = Rng::new(1);
+    for room in (0..200).map(|_| streams::large(&mut rng)) {
+        room.plans.iter().for_each(|plan| compare(&room.cluster, plan));
+    }
+    compared
+}
+
+fn expect(good: bool, name: &str, what: &str) {
+    if !good {
+        println!("{name}: {what}");
+        exit(1);
+    }
+}
+
+// ---------------------------------------------------------------- then speed
+
+fn print_table(inputs: &[Input]) {
+    println!("| input | record bytes | plan bytes | library µs | baseline µs | ratio |");
+    println!("|---|--:|--:|--:|--:|--:|");
+    let mut largest = (0.0, "");
+    for input in inputs {
+        let (library, simple) = measure(input);
+        let ratio = library / simple;
+        let (record, plan) = (input.cluster.len(), input.plan.len());
+        let times = format!("{:.2} | {:.2} | {ratio:.2}", library / 1e3, simple / 1e3);
+        println!("| {} | {record} | {plan} | {times} |", input.name);
+        if ratio > largest.0 {
+            largest = (ratio, input.name);
+        }
+    }
+    println!("\nlargest ratio {:.2} ({})", largest.0, largest.1);
+}
+
+/// Median nanoseconds a call: the library, the baseline.
+fn measure(input: &Input) -> (f64, f64) {
+    let library = || check(black_box(&input.cluster), black_box(&input.plan));
+    let simple = || baseline::check(black_box(&input.cluster), black_box(&input.plan));
+    let (library_calls, simple_calls) = (calls_a_round(library), calls_a_round(simple));
+    let mut times = (Vec::new(), Vec::new());
+    for _ in 0..ROUNDS {
+        times.0.push(round(library, library_calls));
+        times.1.push(round(simple, simple_calls));
+    }
+    (median(times.0), median(times.1))
+}
+
+/// How many calls fill a round; this also warms up.
+fn calls_a_round(call: impl Fn() -> u64) -> u32 {
+    let start = Instant::now();
+    let mut calls = 0;
+    while start.elapsed() < ROUND {
+        black_box(call());
+        calls += 1;
+    }
+    calls
+}
+
+/// Nanoseconds a call over one round.
+fn round(call: impl Fn() -> u64, calls: u32) -> f64 {
+    let start = Instant::now();
+    for _ in 0..calls {
+        black_box(call());
+    }
+    start.elapsed().as_nanos() as f64 / f64::from(calls)
+}
+
+fn median(mut times: Vec<f64>) -> f64 {
+    times.sort_by(f64::total_cmp);
+    times[times.len() / 2]
+}

@@ -1,0 +1,87 @@
+//! `differ SEED COUNT [--seconds N]`: holds the library beside the model on all hand-set inputs,
+//! on COUNT generated ones and on larger rooms, and fails on any difference.
+
+use kobdrieft_harness::report::{Report, Stream};
+use kobdrieft_harness::streams::large;
+use kobdrieft_model::edges::edges;
+use kobdrieft_model::gen::{cases, Rng};
+use std::env;
+use std::process::exit;
+use std::time::{Duration, Instant};
+
+/// A larger room comes with every so many generated cases.
+const CASES_A_ROOM: usize = 50;
+
+/// From so many generated cases on, they must reach every outcome.
+const ENOUGH: usize = 20_000;
+
+struct Words {
+    seed: u64,
+    count: usize,
+    time: Option<Duration>,
+}
+
+fn main() {
+    let words: Vec<String> = env::args().skip(1).collect();
+    let Some(words) = read_words(&words) else {
+        eprintln!("usage: differ SEED COUNT [--seconds N]");
+        exit(2);
+    };
+    let mut report = Report::default();
+    hand_set(&mut report);
+    let done = generated(&mut report, &words);
+    if done >= ENOUGH {
+        report.expect_every_outcome();
+    } else {
+        println!("{done} generated cases are too few to ask for every outcome");
+    }
+    report.print();
+    exit(if report.failed == 0 { 0 } else { 1 });
+}
+
+fn read_words(words: &[String]) -> Option<Words> {
+    let (seed, count) = (words.first()?.parse().ok()?, words.get(1)?.parse().ok()?);
+    let time = match words.get(2..)? {
+        [] => None,
+        [flag, n] if flag == "--seconds" => Some(Duration::from_secs(n.parse().ok()?)),
+        _ => return None,
+    };
+    Some(Words { seed, count, time })
+}
+
+fn hand_set(report: &mut Report) {
+    for edge in edges() {
+        report.check(Stream::HandSet, &edge.cluster, &edge.plan);
+        #[cfg(feature = "planner")]
+        report.build(Stream::HandSet, &edge.cluster, edge.buffer);
+    }
+}
+
+/// Goes through the generated cases and the larger rooms until all are done or time is up; how
+/// many generated cases were done.
+fn generated(report: &mut Report, words: &Words) -> usize {
+    let start = Instant::now();
+    let mut rng = Rng::new(!words.seed);
+    for (i, case) in cases(words.seed, words.count).enumerate() {
+        if words.time.is_some_and(|time| start.elapsed() >= time) {
+            println!("time is up after {i} generated cases");
+            return i;
+        }
+        report.check(Stream::Generated, &case.cluster, &case.plan);
+        #[cfg(feature = "planner")]
+        report.build_in_two(Stream::Generated, i, &case.cluster, case.buffer);
+        if i % CASES_A_ROOM == 0 {
+            large_room(report, &mut rng);
+        }
+    }
+    words.count
+}
+
+fn large_room(report: &mut Report, rng: &mut Rng) {
+    let room = large(rng);
+    for plan in &room.plans {
+        report.check(Stream::Large, &room.cluster, plan);
+    }
+    #[cfg(feature = "planner")]
+    report.build(Stream::Large, &room.cluster, kobdrieft_model::planner::BUFFER);
+}

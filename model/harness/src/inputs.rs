@@ -1,0 +1,242 @@
+//! The inputs that the benchmark measures, each made by a function of its own.
+//!
+//! A full room has 64 nodes, 256 VMs and 128 constraints, and a full plan 1,024 moves. The
+//! largest valid record has 52,043 bytes: 2,123 of header and rows, and 128 latencies of 390 bytes
+//! with all VMs, all nodes and 64 groups. No other constraint can be as long.
+
+use kobdrieft_model::edges::{self, cluster_a};
+use kobdrieft_model::gen::{MOST_CPU, MOST_MEMORY};
+use kobdrieft_model::{cluster_bytes, plan_bytes, Constraint, Move, Node, Room, Step, Vm};
+
+/// One input, with the outcome it is made for: `None` for accepted, else number and step.
+pub struct Input {
+    pub name: &'static str,
+    pub room: Room,
+    pub steps: Vec<Step>,
+    pub cluster: Vec<u8>,
+    pub plan: Vec<u8>,
+    pub outcome: Option<(u8, u16)>,
+}
+
+const NODES: usize = 64;
+const VMS: usize = 256;
+const CONSTRAINTS: usize = 128;
+const LAST: u16 = 512;
+
+/// All inputs, the small room last.
+pub fn all() -> Vec<Input> {
+    vec![
+        hops(),
+        hops_not_home(),
+        hops_too_full(),
+        thin_hops(),
+        spreads(),
+        spreads_meeting(),
+        closed_nodes(),
+        closed_nodes_entered(),
+        mixed(),
+        wide_steps(),
+        wide_steps_too_full(),
+        wide_spreads(),
+        small_room(),
+    ]
+}
+
+fn input(
+    name: &'static str,
+    (room, steps): (Room, Vec<Step>),
+    outcome: Option<(u8, u16)>,
+) -> Input {
+    let (cluster, plan) = (cluster_bytes(&room), plan_bytes(&steps));
+    Input { name, room, steps, cluster, plan, outcome }
+}
+
+/// Sends the last move of the last step elsewhere.
+fn ending_at((room, mut steps): (Room, Vec<Step>), to: usize) -> (Room, Vec<Step>) {
+    let last = steps.last_mut().and_then(|step| step.last_mut());
+    last.expect("a plan with moves").to = to;
+    (room, steps)
+}
+
+// ---------------------------------------------------------------- hops
+
+/// 512 steps of 2 moves: four times round, each VM goes on by 5 nodes, the last time home.
+pub fn hops() -> Input {
+    input("hops", hopping(NODES - 1, latencies(CONSTRAINTS)), None)
+}
+
+/// The same, but in the last step VM 255 goes to its second stop and not home.
+pub fn hops_not_home() -> Input {
+    let nodes = NODES - 1;
+    let plan = ending_at(hopping(nodes, latencies(CONSTRAINTS)), stop(VMS - 1, 1, nodes));
+    input("hops, not home", plan, Some((19, 0)))
+}
+
+/// The same, but in the last step VM 255 goes to node 63, which has nothing to give.
+pub fn hops_too_full() -> Input {
+    let plan = ending_at(hopping(NODES - 1, latencies(CONSTRAINTS)), NODES - 1);
+    input("hops, too full", plan, Some((17, LAST)))
+}
+
+/// The same moves with 128 constraints that say nothing, so that the steps are what takes time.
+pub fn thin_hops() -> Input {
+    let nothing = vec![Constraint::Spread { vms: vec![] }; CONSTRAINTS];
+    input("thin hops", hopping(NODES - 1, nothing), None)
+}
+
+/// Where a hopping VM is after so many rounds, with this many nodes in use.
+fn stop(vm: usize, round: usize, nodes: usize) -> usize {
+    (vm + 5 * round) % nodes
+}
+
+/// Two VMs a step, four rounds. Nodes not in use have no capacity.
+fn hopping(nodes: usize, constraints: Vec<Constraint>) -> (Room, Vec<Step>) {
+    let room = full_room(nodes, |vm| (stop(vm, 0, nodes), stop(vm, 4, nodes)), constraints);
+    let hop = |vm, round| Move { vm, to: stop(vm, round, nodes) };
+    let step = |i: usize| {
+        let (round, vm) = (1 + i / 128, i % 128);
+        vec![hop(vm, round), hop(vm + 128, round)]
+    };
+    (room, (0..512).map(step).collect())
+}
+
+/// 256 VMs with current and target node as given, on the first `used` of 64 nodes.
+fn full_room(
+    used: usize,
+    places: impl Fn(usize) -> (usize, usize),
+    constraints: Vec<Constraint>,
+) -> Room {
+    let mut nodes = vec![Node { memory: MOST_MEMORY, cpu: MOST_CPU }; NODES];
+    nodes[used..].fill(Node { memory: 0, cpu: 0 });
+    let vm = |i: usize| {
+        let (current, target) = places(i);
+        Vm { memory: 512 + (i as u64 * 37) % 4_096, cpu: 10 + i as u64 % 90, current, target }
+    };
+    Room { nodes, vms: (0..VMS).map(vm).collect(), constraints }
+}
+
+fn all_vms() -> Vec<usize> {
+    (0..VMS).collect()
+}
+
+/// Latencies of the largest size: all VMs, 63 empty groups, then one with all nodes.
+fn latencies(how_many: usize) -> Vec<Constraint> {
+    let mut groups = vec![vec![]; 63];
+    groups.push((0..NODES).collect());
+    vec![Constraint::Latency { vms: all_vms(), groups }; how_many]
+}
+
+// ---------------------------------------------------------------- spreads
+
+/// The nodes that have homes on them where VMs go away and back; two are left to go to.
+const HOMES: usize = NODES - 2;
+
+/// 128 spreads of 62 VMs, one from each home; 512 steps of 2 moves, away and back.
+pub fn spreads() -> Input {
+    input("spreads", away_and_back(spread_lists(CONSTRAINTS, HOMES)), None)
+}
+
+/// The same, but in the last step VM 255 goes to the node beside its home, where mates are.
+pub fn spreads_meeting() -> Input {
+    let plan = away_and_back(spread_lists(CONSTRAINTS, HOMES));
+    input("spreads, a mate met", ending_at(plan, VMS % HOMES), Some((18, LAST)))
+}
+
+/// Two VMs go to the two free nodes, then home; all VMs do so twice.
+fn away_and_back(constraints: Vec<Constraint>) -> (Room, Vec<Step>) {
+    let room = full_room(NODES, |vm| (vm % HOMES, vm % HOMES), constraints);
+    let pair = |a: usize, b: usize, to: [usize; 2]| {
+        vec![Move { vm: a, to: to[0] }, Move { vm: b, to: to[1] }]
+    };
+    let both = |i: usize| {
+        let (a, b) = (i % 128, i % 128 + 128);
+        [pair(a, b, [HOMES, HOMES + 1]), pair(a, b, [a % HOMES, b % HOMES])]
+    };
+    (room, (0..256).flat_map(both).collect())
+}
+
+fn spread_lists(how_many: usize, apart: usize) -> Vec<Constraint> {
+    (0..how_many).map(|k| Constraint::Spread { vms: one_of_each(k, apart) }).collect()
+}
+
+/// One VM for each remainder by `apart`, another choice for each list.
+fn one_of_each(list: usize, apart: usize) -> Vec<usize> {
+    let choose = |rest: usize| {
+        let choices = (VMS - rest).div_ceil(apart);
+        rest + apart * ((7 * list + 3 * rest + list * rest) % choices)
+    };
+    let mut vms: Vec<usize> = (0..apart).map(choose).collect();
+    vms.sort();
+    vms
+}
+
+// ---------------------------------------------------------------- bans and fences
+
+/// 64 bans and 64 fences of all VMs around hops on 40 nodes.
+pub fn closed_nodes() -> Input {
+    input("bans and fences", hopping(40, bans_and_fences()), None)
+}
+
+/// The same, but in the last step VM 255 goes to a banned node.
+pub fn closed_nodes_entered() -> Input {
+    let plan = ending_at(hopping(40, bans_and_fences()), 50);
+    input("bans, one entered", plan, Some((16, LAST)))
+}
+
+fn bans_and_fences() -> Vec<Constraint> {
+    let ban = Constraint::Ban { vms: all_vms(), nodes: (40..NODES).collect() };
+    let fence = |i: usize| Constraint::Fence { vms: all_vms(), nodes: (0..48 + i % 17).collect() };
+    (0..CONSTRAINTS / 2).flat_map(|i| [ban.clone(), fence(i)]).collect()
+}
+
+/// 32 constraints of each kind: half the homes are closed to the VMs of the other half.
+pub fn mixed() -> Input {
+    let half = HOMES / 2;
+    let (low, high): (Vec<usize>, Vec<usize>) = all_vms().iter().partition(|&vm| vm % HOMES < half);
+    let ban = Constraint::Ban { vms: high, nodes: (0..half).collect() };
+    let inside = (0..half).chain(HOMES..NODES).collect();
+    let fence = Constraint::Fence { vms: low, nodes: inside };
+    let mut constraints = spread_lists(32, HOMES);
+    constraints.extend(vec![ban; 32]);
+    constraints.extend(vec![fence; 32]);
+    constraints.extend(latencies(32));
+    input("mixed", away_and_back(constraints), None)
+}
+
+// ---------------------------------------------------------------- wide steps
+
+/// 4 steps of 256 moves: all VMs go on by 5 nodes at once.
+pub fn wide_steps() -> Input {
+    input("wide steps", striding(NODES), None)
+}
+
+/// The same on 63 nodes, but in the last step VM 255 goes to node 63, which has nothing to give.
+pub fn wide_steps_too_full() -> Input {
+    input("wide steps, too full", ending_at(striding(NODES - 1), NODES - 1), Some((17, 4)))
+}
+
+fn striding(nodes: usize) -> (Room, Vec<Step>) {
+    let places = |vm| (stop(vm, 0, nodes), stop(vm, 4, nodes));
+    let room = full_room(nodes, places, latencies(CONSTRAINTS));
+    let step = |round| (0..VMS).map(|vm| Move { vm, to: stop(vm, round, nodes) }).collect();
+    (room, (1..=4).map(step).collect())
+}
+
+/// 128 spreads of 32 VMs; 4 steps in which all VMs go from their half of the nodes to the other.
+pub fn wide_spreads() -> Input {
+    let half = NODES / 2;
+    let home = |vm| (vm % half, vm % half);
+    let room = full_room(NODES, home, spread_lists(CONSTRAINTS, half));
+    let there =
+        |round: usize| (0..VMS).map(|vm| Move { vm, to: vm % half + half * round }).collect();
+    let steps = [1, 0, 1, 0].into_iter().map(there).collect();
+    input("wide steps, spreads", (room, steps), None)
+}
+
+// ---------------------------------------------------------------- the small room
+
+/// Document 01's cluster A with its plan.
+pub fn small_room() -> Input {
+    let steps = edges::steps(&[&[(0, 2)], &[(1, 0)], &[(0, 1)]]);
+    input("cluster A", (cluster_a(), steps), None)
+}

@@ -1,0 +1,87 @@
+//! The verified library, called through its C interface, and what it is held against.
+//!
+//! `check` and `build` lend slices as they are. `Lent` puts guard bytes around a copy, so that a
+//! write into lent bytes, or beside them, shows.
+
+pub mod baseline;
+pub mod inputs;
+pub mod report;
+pub mod streams;
+
+mod c {
+    extern "C" {
+        pub fn check(cluster: *const u8, clusters: usize, plan: *const u8, plans: usize) -> u64;
+        #[cfg(feature = "planner")]
+        pub fn build(cluster: *const u8, clusters: usize, out: *mut u8, outs: usize) -> u64;
+    }
+}
+
+/// Checks a plan for a cluster; the packed verdict.
+pub fn check(cluster: &[u8], plan: &[u8]) -> u64 {
+    // SAFETY: each pointer can be read for the length beside it. An empty slice has a pointer
+    // that is not null, and no byte of it is read.
+    unsafe { c::check(cluster.as_ptr(), cluster.len(), plan.as_ptr(), plan.len()) }
+}
+
+/// Builds a plan for a cluster at the front of `out`; the packed answer.
+#[cfg(feature = "planner")]
+pub fn build(cluster: &[u8], out: &mut [u8]) -> u64 {
+    // SAFETY: as in `check`, and `out` can be written for its length and overlaps nothing.
+    unsafe { c::build(cluster.as_ptr(), cluster.len(), out.as_mut_ptr(), out.len()) }
+}
+
+/// How many guard bytes stand on either side. An odd number also lends odd addresses.
+const GUARDS: usize = 17;
+const GUARD: u8 = 0xA5;
+
+/// A copy of some bytes with guard bytes around it, and another that the library never sees. The
+/// library gets a pointer that may be written through, so that the compiler may not assume that
+/// the bytes stay.
+pub struct Lent {
+    bytes: Vec<u8>,
+    before: Vec<u8>,
+}
+
+impl Lent {
+    pub fn of(bytes: &[u8]) -> Lent {
+        let guards = [GUARD; GUARDS];
+        Lent { bytes: [&guards, bytes, &guards].concat(), before: bytes.to_vec() }
+    }
+
+    fn len(&self) -> usize {
+        self.before.len()
+    }
+
+    fn pointer(&mut self) -> *mut u8 {
+        self.bytes[GUARDS..].as_mut_ptr()
+    }
+
+    /// The lent bytes as they are now.
+    pub fn now(&self) -> &[u8] {
+        &self.bytes[GUARDS..GUARDS + self.len()]
+    }
+
+    /// Whether no guard byte was written.
+    pub fn guarded(&self) -> bool {
+        let (front, back) = (&self.bytes[..GUARDS], &self.bytes[GUARDS + self.len()..]);
+        front.iter().chain(back).all(|&b| b == GUARD)
+    }
+
+    /// Whether neither a lent byte nor a guard byte was written.
+    pub fn untouched(&self) -> bool {
+        self.now() == self.before && self.guarded()
+    }
+}
+
+/// As `check`, over watched bytes.
+pub fn check_lent(cluster: &mut Lent, plan: &mut Lent) -> u64 {
+    // SAFETY: both pointers stay within their vectors for the length beside them.
+    unsafe { c::check(cluster.pointer(), cluster.len(), plan.pointer(), plan.len()) }
+}
+
+/// As `build`, over watched bytes.
+#[cfg(feature = "planner")]
+pub fn build_lent(cluster: &mut Lent, out: &mut Lent) -> u64 {
+    // SAFETY: as in `check_lent`; the two vectors are apart.
+    unsafe { c::build(cluster.pointer(), cluster.len(), out.pointer(), out.len()) }
+}
