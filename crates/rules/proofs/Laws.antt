@@ -12,3 +12,4 @@ pub mod Allow
 pub mod Walks
 pub mod Mates
 pub mod Meet
+pub mod Check

@@ -6,10 +6,13 @@ use mathlib.Core.Path.{_≡_}
 use lib.ListN.{length, getD, set, take, replicate}
 use lib.Dec.{ltb, leb, eqb}
 use Rattle.records.specs.Base.{pick, all}
-use Rattle.records.specs.Room.{Constraint, ban, fence, spread, latency, Room, vmOf, nodeOf, roomOf, nodeCount, vmCount, constraintOf}
-use Rattle.records.specs.Plan.{Move, Step, moveOf}
+use Rattle.records.specs.Room.{Constraint, ban, fence, spread, latency, Room, vmOf, nodeOf, roomOf, nodeCount, vmCount, constraintOf, clusterCheck}
+use Rattle.records.specs.Plan.{Move, Step, moveOf, stepAt, stepEnd}
+use Rattle.records.specs.declared.faults.ClusterCheck.{ClusterCheck}
 use Rattle.rules.specs.Moments.{Placement, placeOf, Phase, idle, waiting, running, ended, Cell, cell, Moment, cellsFrom, allRunning, phaseOf, tallyAt, emptyTally, within}
-use Rattle.rules.specs.Rules.{allowed}
+use Rattle.rules.specs.Rules.{allowed, named, fitting, unmet}
+use Rattle.rules.specs.declared.faults.StepFault.{StepFault}
+use Rattle.rules.specs.declared.faults.StepCheck.{StepCheck}
 use Rattle.rules.specs.declared.tally.Need.{Need}
 use Rattle.rules.specs.declared.tally.Tally.{Tally}
 
@@ -20,10 +23,18 @@ pub record NeedOf (room : Room) (v : ℕ) (need : Need) : Type 0 where
   pub memory-most : need .memory < 2 ^ 24
   pub cpu-most : need .cpu < 2 ^ 16
 
+-- the placement that an array holds
+unfoldable pub held : List ℕ → List ℕ → Placement
+held s places = take (vmCount s) places
+
+-- the places of an array are nodes that there are
+pub record Placed (s places : List ℕ) : Type 0 where
+  pub below : (v : ℕ) → getD places v 0 < nodeCount s
+
 -- an array holds a placement of the room of a record: its first places, and all are nodes that there are
 pub record Holds (s places : List ℕ) (placement : Placement) : Type 0 where
-  pub is : take (vmCount s) places ≡ placement
-  pub below : (v : ℕ) → getD places v 0 < nodeCount s
+  pub is : held s places ≡ placement
+  pub placed : Placed s places
 
 -- the first v places of an array are those of a placement
 pub record Filling (s places : List ℕ) (placement : Placement) (v : ℕ) : Type 0 where
@@ -35,10 +46,6 @@ pub record Filling (s places : List ℕ) (placement : Placement) (v : ℕ) : Typ
 unfoldable pub destsFrom : Step → List ℕ
 destsFrom [] = replicate 256 64
 destsFrom (move ∷ moves) = set (destsFrom moves) (move .vm) (move .to)
-
--- the placement that an array holds
-unfoldable pub held : List ℕ → List ℕ → Placement
-held s places = take (vmCount s) places
 
 -- the cells of n VMs from v on, with the destinations of an array: 64 is none
 unfoldable pub goalIn : List ℕ → ℕ → Phase
@@ -65,8 +72,9 @@ pub record Loaded (s places dests : List ℕ) (v : ℕ) (sums : List Tally) : Ty
 pub record Loads (s places dests : List ℕ) (sums : List Tally) : Type 0 where
   pub each : (d : ℕ) → d < 64 → getD sums d emptyTally ≡ tallyAt (roomOf s) d (busyFrom places dests 0 (vmCount s))
 
--- each destination of a step is a node that there is
+-- each VM and each destination of a step is there
 pub record Aimed (s : List ℕ) (step : Step) : Type 0 where
+  pub vms : (i : ℕ) → i < length step → moveOf step i .vm < vmCount s
   pub each : (i : ℕ) → i < length step → moveOf step i .to < nodeCount s
 
 -- the tally of each destination, as the sums have it, is within what the node has
@@ -137,3 +145,17 @@ spreadOk places dests (ban vms nodes) = true
 spreadOk places dests (fence vms nodes) = true
 spreadOk places dests (spread vms) = listUnmet places dests vms
 spreadOk places dests (latency vms groups) = true
+
+-- ---- a step
+
+-- the step at a place of the plan is well named at the places of an array
+pub record Held (s plan : List ℕ) (at : ℕ) (places : List ℕ) : Type 0 where
+  pub whole : clusterCheck s ≡ ClusterCheck.Whole
+  pub fits : stepEnd plan at ≤ length plan
+  pub well-named : named (roomOf s) (held s places) 0 (stepAt plan at) ≡ true
+  pub placed : Placed s places
+
+-- 17 and 18
+unfoldable pub runningCheck : Room → Placement → Step → StepCheck
+runningCheck room places step =
+    pick (not (fitting room places step)) (StepCheck.Faulty StepFault.Misfit) (pick (not (unmet room places step)) (StepCheck.Faulty StepFault.Mate) StepCheck.Sound)

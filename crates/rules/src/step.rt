@@ -1,5 +1,9 @@
 // A step against a placement: refusals 15 to 18.
+use crate::faults::StepCheck;
+use crate::faults::StepFault;
+use crate::places::destinations;
 use crate::places::node_at;
+use crate::spread::mates_unmet;
 use crate::tally::Tally;
 use crate::tally::need_of;
 use crate::tally::within_node;
@@ -9,8 +13,8 @@ ghost use lib.ListN.{length};
 ghost use Rattle.records.specs.Room.{roomOf, clusterCheck};
 ghost use Rattle.records.specs.Plan.{stepAt, stepEnd};
 ghost use Rattle.records.specs.declared.faults.ClusterCheck.{ClusterCheck};
-ghost use Rattle.rules.specs.Rules.{named};
-ghost use Rattle.rules.specs.Inner.{held, Ready, Loads, Aimed, fitsIn};
+ghost use Rattle.rules.specs.Rules.{named, permitted, stepCheck};
+ghost use Rattle.rules.specs.Inner.{Held, Placed, runningCheck, held, Ready, Loads, Aimed, Allows, fitsIn};
 
 // 15: whether each VM and destination is there, the VMs rise, and no destination is its source.
 pub fn well_named(cluster: &[u8], plan: &[u8], at: usize, places: &[u8; 256]) -> bool
@@ -80,4 +84,58 @@ pub fn fits_running(cluster: &[u8], plan: &[u8], at: usize, sums: [Tally; 65]) -
         i += 1;
     }
     true
+}
+
+// 16: whether the table allows each move.
+pub fn moves_allowed(cluster: &[u8], plan: &[u8], at: usize, table: &[u8; 16384]) -> bool
+    requires { ⌜ (clusterCheck (now cluster) ≡ ClusterCheck.Whole) × (stepEnd (now plan) at ≤ length (now plan)) × Aimed (now cluster) (stepAt (now plan) at) × Allows (now cluster) (now table) ⌝ }
+    ensures { λ r. ⌜ r ≡ permitted (roomOf (now (cluster .entry))) (stepAt (now (plan .entry)) at) ⌝ }
+{
+    let n = records::move_count(plan, at);
+    let mut i: usize = 0;
+    while i < n {
+        let v = records::move_vm(plan, at, i) as usize;
+        let d = records::move_to(plan, at, i) as usize;
+        if table[v * 64 + d] == 0 {
+            return false;
+        }
+        i += 1;
+    }
+    true
+}
+
+// 17 and 18, of a step that is well named and allowed.
+fn running_check(cluster: &[u8], plan: &[u8], at: usize, places: &[u8; 256]) -> StepCheck
+    requires { ⌜ Held (now cluster) (now plan) at (now places) ⌝ }
+    ensures { λ r. ⌜ r ≡ runningCheck (roomOf (now (cluster .entry))) (held (now (cluster .entry)) (now (places .entry))) (stepAt (now (plan .entry)) at) ⌝ }
+{
+    let dests = destinations(plan, at);
+    let sums = loads(cluster, places, &dests);
+    if !fits_running(cluster, plan, at, sums) {
+        return StepCheck::Faulty(StepFault::Misfit);
+    }
+    if !mates_unmet(cluster, places, &dests) {
+        return StepCheck::Faulty(StepFault::Mate);
+    }
+    StepCheck::Sound
+}
+
+// The first fault of the step at a place of the plan, from a placement copied for it.
+pub fn step_check(
+    cluster: &[u8],
+    plan: &[u8],
+    at: usize,
+    places: [u8; 256],
+    table: &[u8; 16384],
+) -> StepCheck
+    requires { ⌜ (clusterCheck (now cluster) ≡ ClusterCheck.Whole) × (stepEnd (now plan) at ≤ length (now plan)) × Allows (now cluster) (now table) × Placed (now cluster) places ⌝ }
+    ensures { λ r. ⌜ r ≡ stepCheck (roomOf (now (cluster .entry))) (held (now (cluster .entry)) places) (stepAt (now (plan .entry)) at) ⌝ }
+{
+    if !well_named(cluster, plan, at, &places) {
+        return StepCheck::Faulty(StepFault::Misnamed);
+    }
+    if !moves_allowed(cluster, plan, at, table) {
+        return StepCheck::Faulty(StepFault::Forbidden);
+    }
+    running_check(cluster, plan, at, &places)
 }

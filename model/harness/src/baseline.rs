@@ -55,7 +55,7 @@ fn has(mask: &VmMask, vm: u8) -> bool {
 }
 
 fn meet(a: &VmMask, b: &VmMask) -> bool {
-    a.iter().zip(b).any(|(x, y)| x & y != 0)
+    a.iter().zip(b).fold(0, |common, (x, y)| common | x & y) != 0
 }
 
 fn be16(b: &[u8]) -> usize {

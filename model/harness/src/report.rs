@@ -119,7 +119,7 @@ impl Report {
     /// of blocked with 19.
     fn check_built(&mut self, cluster: &[u8], built: &Built) {
         let Built { answer, out } = built;
-        let stated = out[1..5].iter().fold(0, |n, &b| n * 256 + usize::from(b));
+        let stated = out.iter().skip(1).take(4).fold(0, |n, &b| n * 256 + usize::from(b));
         let plan = &out[..stated.min(out.len())];
         let expected = if answer >> 62 == 0 { answer & COST } else { 2 << 62 | 19 << 16 };
         let result = check(cluster, plan);

@@ -7,7 +7,7 @@ use mathlib.Core.Path.{_≡_, refl, sym, ap, _∙_}
 use native.Mathlib.Decide.{ℕ-discrete, decLt}
 use native.Mathlib.Numerals.{add-one}
 use native.Mathlib.Omega.{arith}
-use lib.ListN.{length, getD, set, take, drop, replicate, length-set, length-replicate, getD-replicate, drop-of-length-le}
+use lib.ListN.{length, getD, set, take, drop, replicate, length-set, length-replicate, getD-replicate, drop-of-length-le, List·getD-eq-default}
 use lib.Seq.{getD-take, getD-set-same, getD-set-other}
 use lib.Dec.{ltb, leb, eqb}
 use mir.Syntax.{w64}
@@ -166,6 +166,12 @@ module _ (s : List ℕ) (places : Placement) where
   named-aimed least (move ∷ moves) e zero h = named-to least move moves e
   named-aimed least (move ∷ moves) e (suc i) h = named-aimed (suc (move .vm)) moves (named-rest least move moves e) i (omega arith)
 
+  named-vms : (least : ℕ) (step : Step) → named (roomOf s) places least step ≡ true → (i : ℕ) → i < length step → moveOf step i .vm < vmCount s
+  unfolding moveOf
+  named-vms least [] e i h = absurd (omega arith)
+  named-vms least (move ∷ moves) e zero h = named-vm least move moves e
+  named-vms least (move ∷ moves) e (suc i) h = named-vms (suc (move .vm)) moves (named-rest least move moves e) i (omega arith)
+
   named-far : (least : ℕ) (step : Step) → nodeCount s ≤ 64 → named (roomOf s) places least step ≡ true → far step ≡ true
   unfolding far all
   named-far least [] m e = refl
@@ -204,7 +210,7 @@ first-is s places step = ap (cellsFrom places step 0) (vms-count s)
 
 module _ (s places : List ℕ) (step : Step) (w : clusterCheck s ≡ Whole) (n : named (roomOf s) (held s places) 0 step ≡ true) where
   pub named-is-aimed : Aimed s step
-  named-is-aimed = record { each = named-aimed s (held s places) 0 step n }
+  named-is-aimed = record { vms = named-vms s (held s places) 0 step n; each = named-aimed s (held s places) 0 step n }
 
   pub named-ready : ((v : ℕ) → getD places v 0 < nodeCount s) → Ready s places (destsFrom step)
   named-ready b =
@@ -215,6 +221,13 @@ module _ (s places : List ℕ) (step : Step) (w : clusterCheck s ≡ Whole) (n :
         most = λ v h. ⊎-elim (λ x. omega arith) (λ x. omega arith) (named-goal s (held s places) 0 step v (omega arith) n);
         leaves = λ v h x. let p = b v in ⊎-elim (λ y. omega arith) (λ y. y .1 (x ∙ sym (held-at s places v h))) (named-goal s (held s places) 0 step v (omega arith) n);
       }
+
+  pub dests-most : (v : ℕ) → getD (destsFrom step) v 0 ≤ 64
+  dests-most v =
+      let m = nodes-most s w in
+      by-cases (decLt v 256)
+      (λ h. ⊎-elim (λ x. omega arith) (λ x. omega arith) (named-goal s (held s places) 0 step v h n))
+      (λ h. let l : length (destsFrom step) ≤ v = rw (dests-length step) (omega arith) in rw (List·getD-eq-default (destsFrom step) 0 l) (omega arith))
 
   far-step : far step ≡ true
   far-step = named-far s (held s places) 0 step (nodes-most s w) n

@@ -15,7 +15,7 @@ use Rattle.records.specs.declared.faults.ClusterCheck.the-variants.{Whole}
 use Rattle.records.proofs.Laws.Cluster.{vms-count, nodes-least}
 use Rattle.records.proofs.Laws.Steps.{step-length}
 use Rattle.rules.specs.Moments.{Placement, currentOf, targetOf, after}
-use Rattle.rules.specs.Inner.{Holds, Filling, destsFrom}
+use Rattle.rules.specs.Inner.{held, Placed, Holds, Filling, destsFrom}
 
 -- ---- filling an array from the VM rows
 
@@ -44,9 +44,10 @@ module _ (s places : List ℕ) (placement : Placement) (v x : ℕ) (f : Filling 
 
 filling-end : (s places : List ℕ) (placement : Placement) (v : ℕ) → Filling s places placement v → length placement ≡ vmCount s → vmCount s ≤ v → v ≤ vmCount s →
     Holds s places placement
+unfolding held
 filling-end s places placement v f e h k =
     let q : v ≡ vmCount s = omega arith in
-    record { is = ap (λ (n : ℕ). take n places) (sym q) ∙ f .is ∙ take-all v placement (omega arith); below = f .below }
+    record { is = ap (λ (n : ℕ). take n places) (sym q) ∙ f .is ∙ take-all v placement (omega arith); placed = record { below = f .below } }
 
 -- the two placements of the record
 pub current-length : (s : List ℕ) → length (currentOf (roomOf s)) ≡ vmCount s

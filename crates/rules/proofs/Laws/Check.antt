@@ -1,0 +1,139 @@
+-- Laws on the check of a step: each refusal 15 to 18 in its turn.
+use Prim.Native.Nat.{ℕ, zero, suc, _+_, _-_, _*_, _≤_, _<_, _^_}
+use mathlib.Core.Bool.{Bool, true, false, not, _&&_}
+use mathlib.Core.List.{List, [], _∷_}
+use mathlib.Core.Logic.{_⊎_, inl, inr, ⊎-elim, by-cases}
+use mathlib.Core.Path.{_≡_, refl, sym, ap, _∙_}
+use native.Mathlib.Decide.{decLt}
+use native.Mathlib.Numerals.{add-one}
+use native.Mathlib.Omega.{arith}
+use lib.ListN.{length, getD, drop, drop-of-length-le, List·getD-eq-default}
+use lib.Dec.{ltb, leb, eqb}
+use Rattle.records.specs.Base.{pick, all}
+use Rattle.records.specs.Room.{Room, roomOf, nodeCount, vmCount, clusterCheck}
+use Rattle.records.specs.Plan.{Move, Step, moveOf, moveCount, stepAt, stepEnd}
+use Rattle.records.specs.declared.faults.ClusterCheck.the-variants.{Whole}
+use Rattle.records.proofs.Laws.Cluster.{nodes-most, vms-most}
+use Rattle.records.proofs.Laws.Steps.{step-length}
+use Rattle.rules.specs.Moments.{Placement, placeOf}
+use Rattle.rules.specs.Rules.{allowed, named, permitted, fitting, unmet, stepCheck}
+use Rattle.rules.specs.Inner.{held, Placed, Held, destsFrom, Ready, Loads, Aimed, Allows, Nodes, fitsIn, spreadOk, runningCheck}
+use Rattle.rules.specs.declared.faults.StepFault.the-variants.{Misnamed, Forbidden, Misfit, Mate}
+use Rattle.rules.specs.declared.faults.StepCheck.{StepCheck}
+use Rattle.rules.specs.declared.faults.StepCheck.the-variants.{Sound, Faulty}
+use Rattle.rules.specs.declared.tally.Tally.{Tally}
+use Rattle.rules.proofs.Laws.Places.{step-cons}
+use Rattle.rules.proofs.Laws.Fit.{named-is-aimed, named-ready, fitting-is, dests-most}
+use Rattle.rules.proofs.Laws.Meet.{unmet-is}
+
+-- ---- 16: the pass over the moves
+
+module _ (s plan table : List ℕ) (at i n v d : ℕ) (e : v ≡ moveOf (stepAt plan at) i .vm) (f : d ≡ moveOf (stepAt plan at) i .to) (q : n ≡ moveCount plan at)
+    (a : Aimed s (stepAt plan at)) (w : clusterCheck s ≡ Whole) (h : i < n) where
+  inside : i < length (stepAt plan at)
+  inside = rw (step-length plan at) (omega arith)
+
+  vm-there : v < vmCount s
+  vm-there = rw e (a .vms i inside)
+
+  node-there : d < 64
+  node-there = let m = nodes-most s w in let k : d < nodeCount s = rw f (a .each i inside) in omega arith
+
+  pub move-index : v * 64 + d < 16384
+  move-index = let m = vms-most s w in let x = vm-there in let y = node-there in omega arith
+
+  module _ (t : Allows s table) (result : Bool) (inv : permitted (roomOf s) (drop i (stepAt plan at)) ≡ result) where
+    opened : (allowed (roomOf s) v d && permitted (roomOf s) (drop (suc i) (stepAt plan at))) ≡ result
+    unfolding permitted all
+    opened = let k : i < moveCount plan at = omega arith in rw (e, f) (simp (step-cons plan at i k) at inv)
+
+    mark : getD table (v * 64 + d) 0 ≡ pick (allowed (roomOf s) v d) 1 0
+    mark = t .each v d vm-there node-there
+
+    pub allowed-not : getD table (v * 64 + d) 0 ≡ 0 → false ≡ result
+    allowed-not z = go (allowed (roomOf s) v d) refl
+      where
+        go : (b : Bool) → allowed (roomOf s) v d ≡ b → false ≡ result
+        go true x = let m : _≡_ {A = ℕ} 1 0 = sym (mark ∙ ap (λ (b : Bool). pick b 1 0) x) ∙ z in absurd (omega arith)
+        go false x = simp x at opened
+
+    pub allowed-more : (getD table (v * 64 + d) 0 ≡ 0 → ⊥) → permitted (roomOf s) (drop (i + 1) (stepAt plan at)) ≡ result
+    allowed-more z = go (allowed (roomOf s) v d) refl
+      where
+        go : (b : Bool) → allowed (roomOf s) v d ≡ b → permitted (roomOf s) (drop (i + 1) (stepAt plan at)) ≡ result
+        go true x = rw add-one (simp x at opened)
+        go false x = absurd (z (mark ∙ ap (λ (b : Bool). pick b 1 0) x))
+
+pub allowed-end : (s plan : List ℕ) (at i n : ℕ) (result : Bool) → n ≡ moveCount plan at → permitted (roomOf s) (drop i (stepAt plan at)) ≡ result → n ≤ i → true ≡ result
+unfolding permitted all
+allowed-end s plan at i n result q inv h =
+    let k : length (stepAt plan at) ≤ i = rw (step-length plan at) (omega arith) in
+    rw (drop-of-length-le (stepAt plan at) k) at inv
+
+-- ---- what the later tests need
+
+pub placed-nodes : (s places : List ℕ) → clusterCheck s ≡ Whole → Placed s places → Nodes places
+placed-nodes s places w p = record { each = λ v. let m = nodes-most s w in let b = p .below v in omega arith }
+
+pub named-held : (s plan places : List ℕ) (at : ℕ) (ok : Bool) → ok ≡ named (roomOf s) (held s places) 0 (stepAt plan at) → clusterCheck s ≡ Whole → stepEnd plan at ≤ length plan →
+    Placed s places → ok ≡ true → Held s plan at places
+named-held s plan places at ok e w f p o = record { whole = w; fits = f; well-named = sym e ∙ o; placed = p }
+
+module _ (s plan places : List ℕ) (at : ℕ) (h : Held s plan at places) where
+  pub held-whole : clusterCheck s ≡ Whole
+  held-whole = h .whole
+
+  pub held-fits : stepEnd plan at ≤ length plan
+  held-fits = h .fits
+
+  pub held-aimed : Aimed s (stepAt plan at)
+  held-aimed = named-is-aimed s places (stepAt plan at) (h .whole) (h .well-named)
+
+  pub held-nodes : Nodes places
+  held-nodes = placed-nodes s places (h .whole) (h .placed)
+
+  module _ (dests : List ℕ) (e : dests ≡ destsFrom (stepAt plan at)) where
+    pub held-ready : Ready s places dests
+    held-ready = rw e (named-ready s places (stepAt plan at) (h .whole) (h .well-named) (h .placed .below))
+
+    pub held-dests : Nodes dests
+    held-dests = rw e (record { each = dests-most s places (stepAt plan at) (h .whole) (h .well-named) })
+
+    module _ (sums : List Tally) (fits : Bool) (l : Loads s places dests sums) (f : fits ≡ fitsIn (roomOf s) sums (stepAt plan at)) where
+      fits-is : fits ≡ fitting (roomOf s) (held s places) (stepAt plan at)
+      fits-is = fitting-is s places (stepAt plan at) (h .whole) (h .well-named) sums fits f (rw e at l)
+
+      pub running-misfit : fits ≡ false → Faulty Misfit ≡ runningCheck (roomOf s) (held s places) (stepAt plan at)
+      unfolding runningCheck
+      running-misfit o = simp (sym fits-is ∙ o)
+
+      module _ (apart : Bool) (g : apart ≡ all (spreadOk places dests) (roomOf s .constraints)) (o : fits ≡ true) where
+        apart-is : apart ≡ unmet (roomOf s) (held s places) (stepAt plan at)
+        apart-is = unmet-is s places (stepAt plan at) (h .whole) (h .well-named) (rw e at held-ready) apart (rw e at g)
+
+        pub running-mate : apart ≡ false → Faulty Mate ≡ runningCheck (roomOf s) (held s places) (stepAt plan at)
+        unfolding runningCheck
+        running-mate p = simp (sym fits-is ∙ o, sym apart-is ∙ p)
+
+        pub running-sound : apart ≡ true → Sound ≡ runningCheck (roomOf s) (held s places) (stepAt plan at)
+        unfolding runningCheck
+        running-sound p = simp (sym fits-is ∙ o, sym apart-is ∙ p)
+
+-- ---- the first fault
+
+module _ (s plan places : List ℕ) (at : ℕ) (name : Bool) (e : name ≡ named (roomOf s) (held s places) 0 (stepAt plan at)) where
+  pub step-misnamed : name ≡ false → Faulty Misnamed ≡ stepCheck (roomOf s) (held s places) (stepAt plan at)
+  unfolding stepCheck
+  step-misnamed o = simp (sym e ∙ o)
+
+  module _ (may : Bool) (f : may ≡ permitted (roomOf s) (stepAt plan at)) (o : name ≡ true) where
+    pub step-forbidden : may ≡ false → Faulty Forbidden ≡ stepCheck (roomOf s) (held s places) (stepAt plan at)
+    unfolding stepCheck
+    step-forbidden p = simp (sym e ∙ o, sym f ∙ p)
+
+    pub step-running : (r : StepCheck) → r ≡ runningCheck (roomOf s) (held s places) (stepAt plan at) → may ≡ true → r ≡ stepCheck (roomOf s) (held s places) (stepAt plan at)
+    unfolding stepCheck runningCheck
+    step-running r g p = simp (sym e ∙ o, sym f ∙ p) g
+
+pub named-aims : (s plan places : List ℕ) (at : ℕ) (ok : Bool) → ok ≡ named (roomOf s) (held s places) 0 (stepAt plan at) → clusterCheck s ≡ Whole → ok ≡ true → Aimed s (stepAt plan at)
+named-aims s plan places at ok e w o = named-is-aimed s places (stepAt plan at) w (sym e ∙ o)
