@@ -13,3 +13,6 @@ pub mod Walks
 pub mod Mates
 pub mod Meet
 pub mod Check
+pub mod Costs
+pub mod Targets
+pub mod Kept

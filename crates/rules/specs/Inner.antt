@@ -5,12 +5,15 @@ use mathlib.Core.List.{List, [], _∷_}
 use mathlib.Core.Path.{_≡_}
 use lib.ListN.{length, getD, set, take, replicate}
 use lib.Dec.{ltb, leb, eqb}
-use Rattle.records.specs.Base.{pick, all}
-use Rattle.records.specs.Room.{Constraint, ban, fence, spread, latency, Room, vmOf, nodeOf, roomOf, nodeCount, vmCount, constraintOf, clusterCheck}
+use Rattle.records.specs.Base.{pick, all, sumOf}
+use Rattle.records.specs.Room.{Constraint, ban, fence, spread, latency, Room, vmOf, nodeOf, roomOf, nodeCount, vmCount, nodesOf, groupsOf, listOk, groupsFrom, groupsEnd, constraintOf, filled, clusterCheck}
+use Rattle.records.specs.Inner.{Below}
 use Rattle.records.specs.Plan.{Move, Step, moveOf, stepAt, stepEnd}
 use Rattle.records.specs.declared.faults.ClusterCheck.{ClusterCheck}
-use Rattle.rules.specs.Moments.{Placement, placeOf, Phase, idle, waiting, running, ended, Cell, cell, Moment, cellsFrom, allRunning, phaseOf, tallyAt, emptyTally, within}
-use Rattle.rules.specs.Rules.{allowed, named, fitting, unmet}
+use Rattle.rules.specs.Moments.{Placement, placeOf, targetOf, Phase, idle, waiting, running, ended, Cell, cell, Moment, cellsFrom, allRunning, phaseOf, tallyAt, emptyTally, within}
+use Rattle.rules.specs.Cost.{memoryOf}
+use Rattle.rules.specs.Orders.{some}
+use Rattle.rules.specs.Rules.{from, allowed, named, fitting, unmet}
 use Rattle.rules.specs.declared.faults.StepFault.{StepFault}
 use Rattle.rules.specs.declared.faults.StepCheck.{StepCheck}
 use Rattle.rules.specs.declared.tally.Need.{Need}
@@ -159,3 +162,47 @@ pub record Held (s plan : List ℕ) (at : ℕ) (places : List ℕ) : Type 0 wher
 unfoldable pub runningCheck : Room → Placement → Step → StepCheck
 runningCheck room places step =
     pick (not (fitting room places step)) (StepCheck.Faulty StepFault.Misfit) (pick (not (unmet room places step)) (StepCheck.Faulty StepFault.Mate) StepCheck.Sound)
+
+-- the sum over the moves of a step, behind steps of a given cost
+unfoldable pub movesCost : Room → ℕ → Step → ℕ
+movesCost room before step = sumOf (λ move. memoryOf room move + before) step
+
+-- ---- the target
+
+-- the places of an array are below 64
+pub record Low (places : List ℕ) : Type 0 where
+  pub below : (v : ℕ) → getD places v 0 < 64
+
+-- a constraint's part: its lists fill it, and name nodes below 64 and VMs in order
+pub record Formed (p : List ℕ) : Type 0 where
+  pub fills : filled p ≡ true
+  pub nodes : Below 64 (nodesOf (constraintOf p))
+  pub groups : all (listOk 64) (groupsOf (constraintOf p)) ≡ true
+
+-- the tallies of n nodes from d on are within what they have
+unfoldable pub fitsUpTo : Room → List Tally → ℕ → ℕ → Bool
+fitsUpTo room sums d n = all (λ e. within (nodeOf room e) (getD sums e emptyTally)) (from d n)
+
+-- n VMs from v on are on their targets
+unfoldable pub homeFrom : Room → Placement → ℕ → ℕ → Bool
+homeFrom room places v n = all (λ u. eqb (placeOf places u) (placeOf (targetOf room) u)) (from v n)
+
+-- no VM is on a stopped node
+unfoldable pub clearOf : List ℕ → List ℕ → List ℕ → Bool
+clearOf stop places vms = all (λ v. eqb (getD stop (getD places v 0) 0) 0) vms
+
+-- all VMs are in a group
+unfoldable pub groupHolds : List ℕ → List ℕ → List ℕ → Bool
+groupHolds places vms g = clearOf (stopped (replicate 64 1) 0 g) places vms
+
+-- the places of an array keep a constraint
+unfoldable pub keepsIn : List ℕ → Constraint → Bool
+keepsIn places (ban vms nodes) = clearOf (stopped (replicate 64 0) 1 nodes) places vms
+keepsIn places (fence vms nodes) = clearOf (stopped (replicate 64 1) 0 nodes) places vms
+keepsIn places (spread vms) = goUnmet (replicate 65 0) places vms
+keepsIn places (latency vms groups) = eqb (length vms) 0 || some (groupHolds places vms) groups
+
+-- the last n groups of a constraint's part start at a place
+pub record Grouping (p : List ℕ) (at n : ℕ) : Type 0 where
+  pub ends : groupsEnd p at n ≡ length p
+  pub sound : all (listOk 64) (groupsFrom p at n) ≡ true

@@ -42,7 +42,7 @@ fn keep_rows(vms: &[u8], stop: &[u8; 64], table: &mut [u8; 16384])
 }
 
 // Marks for the nodes named, on a ground.
-fn stops(nodes: &[u8], ground: u8, mark: u8) -> [u8; 64]
+pub fn stops(nodes: &[u8], ground: u8, mark: u8) -> [u8; 64]
     requires { ⌜ Below 64 (now nodes) ⌝ }
     ensures { λ r. ⌜ r ≡ stopped (replicate 64 ground) mark (now (nodes .entry)) ⌝ }
 {

@@ -1,10 +1,12 @@
 // The rules of a migration: what may happen in a step, and the verdict on a plan.
 mod allow;
+mod cost;
 mod faults;
 mod places;
 mod spread;
 mod step;
 mod tally;
+mod target;
 
 pub use faults::Fault;
 pub use faults::StepCheck;

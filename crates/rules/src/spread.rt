@@ -34,12 +34,12 @@ fn starts(vms: &[u8], places: &[u8; 256]) -> [u8; 65]
     marks
 }
 
-// Whether the VMs of one spread arrive apart: no two at one node, and none where one starts.
-fn list_unmet(vms: &[u8], places: &[u8; 256], dests: &[u8; 256]) -> bool
-    requires { ⌜ Nodes (now places) × Nodes (now dests) ⌝ }
-    ensures { λ r. ⌜ r ≡ listUnmet (now (places .entry)) (now (dests .entry)) (now (vms .entry)) ⌝ }
+// Whether each VM arrives at an unmarked node, which is then marked.
+pub fn arrive_apart(vms: &[u8], ground: [u8; 65], dests: &[u8; 256]) -> bool
+    requires { ⌜ Nodes (now dests) ⌝ }
+    ensures { λ r. ⌜ r ≡ goUnmet ground (now (dests .entry)) (now (vms .entry)) ⌝ }
 {
-    let mut marks = starts(vms, places);
+    let mut marks = ground;
     let mut i: usize = 0;
     while i < vms.len() {
         let d = node_at(dests, entry(vms, i));
@@ -50,6 +50,14 @@ fn list_unmet(vms: &[u8], places: &[u8; 256], dests: &[u8; 256]) -> bool
         i += 1;
     }
     true
+}
+
+// Whether the VMs of one spread arrive apart: no two at one node, and none where one starts.
+fn list_unmet(vms: &[u8], places: &[u8; 256], dests: &[u8; 256]) -> bool
+    requires { ⌜ Nodes (now places) × Nodes (now dests) ⌝ }
+    ensures { λ r. ⌜ r ≡ listUnmet (now (places .entry)) (now (dests .entry)) (now (vms .entry)) ⌝ }
+{
+    arrive_apart(vms, starts(vms, places), dests)
 }
 
 // The same of a constraint: only a spread has mates.

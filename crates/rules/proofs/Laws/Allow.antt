@@ -174,7 +174,7 @@ list-at table stop (v ∷ vs) u e z b k =
     eqb-turn : (u v : ℕ) → eqb u v ≡ eqb v u
     eqb-turn u v = by-cases (ℕ-discrete u v) (λ q. eq-eqb u v q ∙ sym (eq-eqb v u (sym q))) (λ q. ne-eqb u v q ∙ sym (ne-eqb v u (λ x. q (sym x))))
 
-stopped-at : (marks nodes : List ℕ) (mark e : ℕ) → length marks ≡ 64 → e < 64 → getD (stopped marks mark nodes) e 0 ≡ pick (has nodes e) mark (getD marks e 0)
+pub stopped-at : (marks nodes : List ℕ) (mark e : ℕ) → length marks ≡ 64 → e < 64 → getD (stopped marks mark nodes) e 0 ≡ pick (has nodes e) mark (getD marks e 0)
 unfolding stopped has
 stopped-at marks [] mark e z k = refl
 stopped-at marks (d ∷ ds) mark e z k =

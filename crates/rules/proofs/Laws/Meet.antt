@@ -46,7 +46,7 @@ is-false : (a : Bool) → (a ≡ true → ⊥) → a ≡ false
 is-false true n = absurd (n refl)
 is-false false n = refl
 
-all-intro : {A : Type 0} (p : A → Bool) (xs : List A) (d : A) → ((i : ℕ) → i < length xs → p (getD xs i d) ≡ true) → all p xs ≡ true
+pub all-intro : {A : Type 0} (p : A → Bool) (xs : List A) (d : A) → ((i : ℕ) → i < length xs → p (getD xs i d) ≡ true) → all p xs ≡ true
 unfolding all
 all-intro p [] d h = refl
 all-intro p (x ∷ xs) d h = and-both (h 0 (omega arith)) (all-intro p xs d (λ i k. h (suc i) (omega arith)))
@@ -77,7 +77,7 @@ unfolding above rises
 above-low low [] a = refl
 above-low low (x ∷ xs) a = and-right (ltb low x) (above x xs) a
 
-has-below : (n y : ℕ) (xs : List ℕ) → all (λ x. ltb x n) xs ≡ true → has xs y ≡ true → y < n
+pub has-below : (n y : ℕ) (xs : List ℕ) → all (λ x. ltb x n) xs ≡ true → has xs y ≡ true → y < n
 unfolding all has
 has-below n y [] a h = never (sym h)
 has-below n y (x ∷ xs) a h =
@@ -87,7 +87,7 @@ has-below n y (x ∷ xs) a h =
 -- ---- arrivals: E is where each VM arrives (64: nowhere), f where it may not
 
 module _ (E : ℕ → ℕ) where
-  arrives : (ℕ → Bool) → List ℕ → Bool
+  unfoldable pub arrives : (ℕ → Bool) → List ℕ → Bool
   arrives f [] = true
   arrives f (v ∷ vs) = not (f (E v)) && arrives (λ d. (eqb (E v) d && ltb (E v) 64) || f d) vs
 
@@ -138,11 +138,11 @@ module _ (E : ℕ → ℕ) where
 -- ---- the passes
 
 -- the marks stand where f holds; never at 64
-record Marks (marks : List ℕ) (f : ℕ → Bool) : Type 0 where
-  size : length marks ≡ 65
-  each : (d : ℕ) → d ≤ 64 → getD marks d 0 ≡ pick (f d) 1 0
+pub record Marks (marks : List ℕ) (f : ℕ → Bool) : Type 0 where
+  pub size : length marks ≡ 65
+  pub each : (d : ℕ) → d ≤ 64 → getD marks d 0 ≡ pick (f d) 1 0
 
-marks-none : Marks (replicate 65 0) (λ d. false)
+pub marks-none : Marks (replicate 65 0) (λ d. false)
 marks-none = record { size = length-replicate {A = ℕ} 65 0; each = λ d h. getD-replicate {A = ℕ} 65 d 0 0 (omega arith) }
 
 marks-set : (marks : List ℕ) (f : ℕ → Bool) (p m : ℕ) (b : Bool) → Marks marks f → p ≤ 64 → m ≡ pick b 1 0 → (b ≡ false → f p ≡ false) →
@@ -199,7 +199,7 @@ pick-and : (a b : Bool) → pick a b false ≡ (a && b)
 pick-and true b = refl
 pick-and false b = refl
 
-go-arrives : (marks dests vs : List ℕ) (f : ℕ → Bool) → Marks marks f → f 64 ≡ false → ((w : ℕ) → has vs w ≡ true → getD dests w 0 ≤ 64) →
+pub go-arrives : (marks dests vs : List ℕ) (f : ℕ → Bool) → Marks marks f → f 64 ≡ false → ((w : ℕ) → has vs w ≡ true → getD dests w 0 ≤ 64) →
     goUnmet marks dests vs ≡ arrives (λ v. getD dests v 0) f vs
 unfolding goUnmet arrives has
 go-arrives marks dests [] f k z b = refl

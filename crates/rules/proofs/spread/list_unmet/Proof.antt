@@ -1,87 +1,24 @@
+use Rattle.rules.specs.Inner.{listUnmet}
 use borrow.Author.Needs.{needs}
-use Prim.Native.Nat.{_≤_, _-_}
-use mathlib.Core.Path.{_≡_}
-use lib.ListN.{length, drop, replicate}
-use Rattle.rules.specs.Inner.{goUnmet, listUnmet}
-use Rattle.rules.proofs.Laws.Mates.{node-index, unmet-start, unmet-not, unmet-more, unmet-end}
 use Rattle.rules.proofs.spread.list_unmet.Statement.{statement}
 use Rattle.rules.proofs.spread.list_unmet.Tie as tie
 use Rattle.rules.proofs.spread.list_unmet.Reads as reads
 use Rattle.rules.proofs.spread.list_unmet.Lts as lts
-use Rattle.rules.proofs.places.entry.Reads as entry-reads
-use Rattle.rules.proofs.places.node_at.Reads as node-at-reads
-use Rattle.rules.proofs.spread.mark_of.Reads as mark-of-reads
+use Rattle.rules.proofs.spread.arrive_apart.Reads as arrive-apart-reads
 use Rattle.rules.proofs.spread.starts.Reads as starts-reads
 
-abbrev Inv-loop : tie.InvT-loop
-Inv-loop vms places dests marks₀ i₀ marks i = (i ≤ length vms) × (goUnmet marks dests (drop i vms) ≡ listUnmet places dests vms)
-
-abbrev μ-loop : tie.MeasureT-loop
-μ-loop vms places dests marks₀ i₀ marks i = length vms - i
-
--- src/spread.rt:42:21
-starts-requires : tie.Need-starts-requires Inv-loop μ-loop
+-- src/spread.rt:60:23
+starts-requires : tie.Need-starts-requires
 starts-requires c κs = search needs
 
--- src/spread.rt:44:5
-loop-holds : tie.Need-loop-holds Inv-loop μ-loop
-loop-holds c = search (needs, unmet-start)
+-- src/spread.rt:60:5
+arrive-apart-requires : tie.Need-arrive-apart-requires
+arrive-apart-requires c κs = search needs
 
--- src/spread.rt:45:32
-entry-requires : tie.Need-entry-requires Inv-loop μ-loop
-entry-requires c κs = search needs
-
--- src/spread.rt:45:13
-node-at-requires : tie.Need-node-at-requires Inv-loop μ-loop
-node-at-requires c κs = search needs
-
--- src/spread.rt:46:12
-array-read-if1 : tie.Need-array-read-if1 Inv-loop μ-loop
-array-read-if1 c = search (needs, node-index)
-
--- src/spread.rt:47:13
-returns : tie.Need-returns Inv-loop μ-loop
-returns c = search (needs, unmet-not)
-
--- src/spread.rt:49:20
-mark-of-requires : tie.Need-mark-of-requires Inv-loop μ-loop
-mark-of-requires c κs = search needs
-
--- src/spread.rt:49:9
-array-write-marks : tie.Need-array-write-marks Inv-loop μ-loop
-array-write-marks c = search (needs, node-index)
-
--- src/spread.rt:50:9
-add-i : tie.Need-add-i Inv-loop μ-loop
-add-i c = search needs
-
--- src/spread.rt:44:5
-loop-less : tie.Need-loop-less Inv-loop μ-loop
-loop-less c = search needs
-
--- src/spread.rt:44:5
-loop-again : tie.Need-loop-again Inv-loop μ-loop
-loop-again c = search (needs, unmet-more)
-
--- src/spread.rt:38:1
-returns-2 : tie.Need-returns-2 Inv-loop μ-loop
-returns-2 c = search (needs, unmet-end)
+-- src/spread.rt:56:1
+returns : tie.Need-returns
+unfolding listUnmet
+returns c = cc
 
 pub list-unmet-spec : {M : Type 1} → statement M
-list-unmet-spec =
-    tie.close
-    (tie.spec
-    Inv-loop
-    μ-loop
-    starts-requires
-    loop-holds
-    entry-requires
-    node-at-requires
-    array-read-if1
-    returns
-    mark-of-requires
-    array-write-marks
-    add-i
-    loop-less
-    loop-again
-    returns-2)
+list-unmet-spec = tie.close (tie.spec starts-requires arrive-apart-requires returns)

@@ -1,0 +1,98 @@
+-- Laws on the cost: the passes over a step's moves, and the recurrence over the steps.
+use Prim.Native.Nat.{ℕ, zero, suc, _+_, _-_, _*_, _≤_, _<_, _^_, max}
+use mathlib.Core.List.{List, [], _∷_}
+use mathlib.Core.Path.{_≡_, refl, sym, ap, _∙_}
+use native.Mathlib.Omega.{arith}
+use lib.ListN.{length, getD, drop, drop-of-length-le, List·getD-eq-default}
+use mir.Syntax.{w64}
+use mir.Val.{Fits}
+use Rattle.records.specs.Base.{sumOf}
+use Rattle.records.specs.Room.{Room, Vm, noVm, vmOf, roomOf, vmCount, clusterCheck}
+use Rattle.records.specs.Plan.{Move, Step, moveOf, moveCount, stepAt, stepEnd, stepCount, stepsFrom, stepsOf, moveTotal, planCheck}
+use Rattle.records.specs.Inner.{Steps}
+use Rattle.records.specs.declared.faults.PlanCheck.the-variants.{Whole}
+use Rattle.records.proofs.Laws.Cluster.{vms-count}
+use Rattle.records.proofs.Laws.Steps.{step-length, steps-cons, steps-next, step-within, steps-start, steps-most, total-cons}
+use Rattle.rules.specs.Cost.{memoryOf, stepCost, costFrom, costOf}
+use Rattle.rules.specs.Inner.{movesCost}
+use Rattle.rules.proofs.Laws.Places.{step-cons}
+
+pub memory-none : (s : List ℕ) (v n : ℕ) → n ≡ vmCount s → n ≤ v → 0 ≡ vmOf (roomOf s) v .memory
+unfolding vmOf
+memory-none s v n q h =
+    let l : length (roomOf s .vms) ≤ v = rw (vms-count s) (omega arith) in
+    sym (ap (λ (m : Vm). m .memory) (List·getD-eq-default (roomOf s .vms) noVm l))
+
+-- ---- the passes over the moves, last to first
+
+module _ (s plan : List ℕ) (at i v m : ℕ) (e : v ≡ moveOf (stepAt plan at) (i - 1) .vm) (f : m ≡ vmOf (roomOf s) v .memory) (h : 0 < i) (k : i ≤ moveCount plan at) where
+  cons : drop (i - 1) (stepAt plan at) ≡ moveOf (stepAt plan at) (i - 1) ∷ drop i (stepAt plan at)
+  cons =
+      let j : i - 1 < moveCount plan at = omega arith in
+      let l : suc (i - 1) ≡ i = omega arith in
+      step-cons plan at (i - 1) j ∙ ap (λ (n : ℕ). moveOf (stepAt plan at) (i - 1) ∷ drop n (stepAt plan at)) l
+
+  pub max-more : (most next : ℕ) → next ≡ max m most → most ≡ stepCost (roomOf s) (drop i (stepAt plan at)) → next ≡ stepCost (roomOf s) (drop (i - 1) (stepAt plan at))
+  unfolding stepCost memoryOf
+  max-more most next g inv = rw cons (g ∙ rw (f, e, inv))
+
+  pub sum-more : (before sum : ℕ) → sum ≡ movesCost (roomOf s) before (drop i (stepAt plan at)) → sum + (m + before) ≡ movesCost (roomOf s) before (drop (i - 1) (stepAt plan at))
+  unfolding movesCost memoryOf sumOf
+  sum-more before sum inv = rw cons (rw (← e, ← f, ← inv) (omega arith))
+
+pub max-start : (s plan : List ℕ) (at n : ℕ) → n ≡ moveCount plan at → 0 ≡ stepCost (roomOf s) (drop n (stepAt plan at))
+unfolding stepCost
+max-start s plan at n q = let k : length (stepAt plan at) ≤ n = rw (step-length plan at) (omega arith) in rw (drop-of-length-le (stepAt plan at) k)
+
+pub sum-start : (s plan : List ℕ) (at n before : ℕ) → n ≡ moveCount plan at → 0 ≡ movesCost (roomOf s) before (drop n (stepAt plan at))
+unfolding movesCost sumOf
+sum-start s plan at n before q = let k : length (stepAt plan at) ≤ n = rw (step-length plan at) (omega arith) in rw (drop-of-length-le (stepAt plan at) k)
+
+pub max-end : (s plan : List ℕ) (at i most : ℕ) → most ≡ stepCost (roomOf s) (drop i (stepAt plan at)) → i ≤ 0 → most ≡ stepCost (roomOf s) (stepAt plan at)
+max-end s plan at i most inv h = let z : i ≡ 0 = omega arith in rw z at inv
+
+pub sum-end : (s plan : List ℕ) (at i before sum : ℕ) → sum ≡ movesCost (roomOf s) before (drop i (stepAt plan at)) → i ≤ 0 → sum ≡ movesCost (roomOf s) before (stepAt plan at)
+sum-end s plan at i before sum inv h = let z : i ≡ 0 = omega arith in rw z at inv
+
+pub sum-most : (plan : List ℕ) (at i sum : ℕ) → sum + i * 2 ^ 34 ≤ moveCount plan at * 2 ^ 34 → sum ≤ length (stepAt plan at) * 2 ^ 34
+sum-most plan at i sum h = rw (step-length plan at) (omega arith)
+
+-- ---- the recurrence
+
+pub cost-none : (s plan : List ℕ) (at left before : ℕ) → left ≡ 0 → 0 ≡ costFrom (roomOf s) before (stepsFrom plan at left)
+unfolding costFrom stepsFrom
+cost-none s plan at left before z = rw z
+
+module _ (s plan : List ℕ) (at left before own most rest end : ℕ) (w : Steps plan at left) (z : left ≡ 0 → ⊥) (b : end ≡ stepEnd plan at) where
+  some : 0 < left
+  some = omega arith
+
+  pub cost-more : own ≡ movesCost (roomOf s) before (stepAt plan at) → most ≡ stepCost (roomOf s) (stepAt plan at) →
+      rest ≡ costFrom (roomOf s) (before + most) (stepsFrom plan end (left - 1)) → own + rest ≡ costFrom (roomOf s) before (stepsFrom plan at left)
+  unfolding costFrom movesCost
+  cost-more e f g = rw (steps-cons plan at left w some) (rw (e, g, f, b))
+
+  pub cost-most : own ≤ length (stepAt plan at) * 2 ^ 34 → rest ≤ moveTotal (stepsFrom plan end (left - 1)) * 2 ^ 34 → own + rest ≤ moveTotal (stepsFrom plan at left) * 2 ^ 34
+  cost-most e g =
+      let t : moveTotal (stepsFrom plan at left) ≡ length (stepAt plan at) + moveTotal (stepsFrom plan end (left - 1)) =
+      ap moveTotal (steps-cons plan at left w some) ∙ total-cons (stepAt plan at) (stepsFrom plan (stepEnd plan at) (left - 1)) ∙ ap (λ (k : ℕ). length (stepAt plan at) + moveTotal (stepsFrom plan k (left - 1))) (sym b) in
+      omega arith
+
+  pub cost-fits : own ≤ length (stepAt plan at) * 2 ^ 34 → rest ≤ moveTotal (stepsFrom plan end (left - 1)) * 2 ^ 34 → Fits w64 (own + rest)
+  cost-fits e g = let m = cost-most e g in let t = w .total in record { fits = omega arith }
+
+  pub cost-next : Steps plan end (left - 1)
+  cost-next = rw b (steps-next plan at left w some)
+
+pub steps-in : (plan : List ℕ) (at left : ℕ) → Steps plan at left → (left ≡ 0 → ⊥) → stepEnd plan at ≤ length plan
+steps-in plan at left w z = step-within plan at left w (omega arith)
+
+pub cost-whole : (s plan : List ℕ) (n r : ℕ) → n ≡ stepCount plan → r ≡ costFrom (roomOf s) 0 (stepsFrom plan 7 n) → r ≡ costOf (roomOf s) (stepsOf plan)
+unfolding costOf stepsOf
+cost-whole s plan n r q e = e ∙ rw q
+
+pub cost-start : (plan : List ℕ) (n : ℕ) → n ≡ stepCount plan → planCheck plan ≡ Whole → Steps plan 7 n
+cost-start plan n q w = rw q (steps-start plan w)
+
+pub cost-bound : (plan : List ℕ) (n r : ℕ) → n ≡ stepCount plan → planCheck plan ≡ Whole → r ≤ moveTotal (stepsFrom plan 7 n) * 2 ^ 34 → r ≤ 2 ^ 44
+cost-bound plan n r q w h = let t = cost-start plan n q w .total in omega arith
