@@ -16,3 +16,4 @@ pub mod Check
 pub mod Costs
 pub mod Targets
 pub mod Kept
+pub mod Turns

@@ -7,13 +7,15 @@ use lib.ListN.{length, getD, set, take, replicate}
 use lib.Dec.{ltb, leb, eqb}
 use Rattle.records.specs.Base.{pick, all, sumOf}
 use Rattle.records.specs.Room.{Constraint, ban, fence, spread, latency, Room, vmOf, nodeOf, roomOf, nodeCount, vmCount, nodesOf, groupsOf, listOk, groupsFrom, groupsEnd, constraintOf, filled, clusterCheck}
-use Rattle.records.specs.Inner.{Below}
-use Rattle.records.specs.Plan.{Move, Step, moveOf, stepAt, stepEnd}
+use Rattle.records.specs.Inner.{Below, Steps}
+use Rattle.records.specs.Plan.{Move, Step, moveOf, stepAt, stepEnd, stepsFrom, stepsOf}
 use Rattle.records.specs.declared.faults.ClusterCheck.{ClusterCheck}
 use Rattle.rules.specs.Moments.{Placement, placeOf, targetOf, Phase, idle, waiting, running, ended, Cell, cell, Moment, cellsFrom, allRunning, phaseOf, tallyAt, emptyTally, within}
-use Rattle.rules.specs.Cost.{memoryOf}
+use Rattle.rules.specs.Cost.{memoryOf, costOf}
 use Rattle.rules.specs.Orders.{some}
 use Rattle.rules.specs.Rules.{from, allowed, named, fitting, unmet}
+use Rattle.rules.specs.Verdict.{faultStep, stepsVerdict, planVerdict}
+use Rattle.rules.specs.declared.faults.Verdict.{Verdict}
 use Rattle.rules.specs.declared.faults.StepFault.{StepFault}
 use Rattle.rules.specs.declared.faults.StepCheck.{StepCheck}
 use Rattle.rules.specs.declared.tally.Need.{Need}
@@ -206,3 +208,22 @@ keepsIn places (latency vms groups) = eqb (length vms) 0 || some (groupHolds pla
 pub record Grouping (p : List ℕ) (at n : ℕ) : Type 0 where
   pub ends : groupsEnd p at n ≡ length p
   pub sound : all (listOk 64) (groupsFrom p at n) ≡ true
+
+-- ---- the verdict
+
+-- the step that a verdict names, 0 where it names none
+abbrev pub stepOf : Verdict → ℕ
+stepOf (Verdict.Accepted cost) = 0
+stepOf (Verdict.Refused fault) = faultStep fault
+
+-- a verdict is the one defined, and its step is at most 512
+pub record Given (r verdict : Verdict) : Type 0 where
+  pub is : r ≡ verdict
+  pub most : stepOf r ≤ 512
+
+-- the checker before the last n steps: where they start, where the VMs are, the number of the next, and what is still due
+pub record Walking (s plan places : List ℕ) (at n number : ℕ) : Type 0 where
+  pub steps : Steps plan at n
+  pub placed : Placed s places
+  pub count : number + n ≤ 513
+  pub verdict : stepsVerdict (roomOf s) (Verdict.Accepted (costOf (roomOf s) (stepsOf plan))) (held s places) number (stepsFrom plan at n) ≡ planVerdict (roomOf s) (stepsOf plan)

@@ -7,12 +7,40 @@ mod spread;
 mod step;
 mod tally;
 mod target;
+mod verdict;
 
+ghost use Rattle.rules.specs.Promises.{Checked};
+
+// What a verdict says.
 pub use faults::Fault;
 pub use faults::StepCheck;
 pub use faults::StepFault;
 pub use faults::TargetCheck;
 pub use faults::TargetFault;
 pub use faults::Verdict;
+pub use faults::fault_number;
+pub use faults::fault_step;
+pub use verdict::verdict_on;
+
+// A node's tally.
 pub use tally::Need;
 pub use tally::Tally;
+pub use tally::need_of;
+pub use tally::within_node;
+
+// Placements, destinations and the target.
+pub use allow::allow_table;
+pub use places::current_places;
+pub use places::node_at;
+pub use places::target_places;
+pub use target::at_home;
+pub use target::target_check;
+
+// The verdict on a plan for a cluster, on any two byte strings: an accepted plan's cost, or a refusal with bit 63 set, its number
+// from bit 16 on and its step below that. `Checked` lists what is promised of it.
+#[no_mangle]
+pub extern "C" fn check(cluster: &[u8], plan: &[u8]) -> u64
+    ensures { λ r. ⌜ Checked (now (cluster .entry)) (now (plan .entry)) r ⌝ }
+{
+    verdict::pack(verdict_on(cluster, plan))
+}

@@ -135,7 +135,7 @@ module _ (s : List ℕ) (places : Placement) where
   unfolding named
   named-parts least move moves e = simp (vms-count, nodes-count) at e
 
-  named-to : (least : ℕ) (move : Move) (moves : Step) → named (roomOf s) places least (move ∷ moves) ≡ true → move .to < nodeCount s
+  pub named-to : (least : ℕ) (move : Move) (moves : Step) → named (roomOf s) places least (move ∷ moves) ≡ true → move .to < nodeCount s
   named-to least move moves e =
       ltb-true (move .to) (nodeCount s)
       (and-left (ltb (move .to) (nodeCount s)) (not (eqb (move .to) (placeOf places (move .vm))))
@@ -155,7 +155,7 @@ module _ (s : List ℕ) (places : Placement) where
       (and-right (leb least (move .vm)) (ltb (move .vm) (vmCount s))
       (and-left (leb least (move .vm) && ltb (move .vm) (vmCount s)) _ (named-parts least move moves e)))
 
-  named-rest : (least : ℕ) (move : Move) (moves : Step) → named (roomOf s) places least (move ∷ moves) ≡ true → named (roomOf s) places (suc (move .vm)) moves ≡ true
+  pub named-rest : (least : ℕ) (move : Move) (moves : Step) → named (roomOf s) places least (move ∷ moves) ≡ true → named (roomOf s) places (suc (move .vm)) moves ≡ true
   named-rest least move moves e =
       and-right (ltb (move .to) (nodeCount s) && not (eqb (move .to) (placeOf places (move .vm)))) _
       (and-right (leb least (move .vm) && ltb (move .vm) (vmCount s)) _ (named-parts least move moves e))

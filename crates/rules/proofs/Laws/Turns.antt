@@ -1,0 +1,193 @@
+-- Laws on the verdict: the turns over the steps, and the checking order around them.
+use Prim.Native.Nat.{ℕ, zero, suc, _+_, _-_, _*_, _≤_, _<_, _^_}
+use mathlib.Core.Bool.{Bool, true, false, not, _&&_}
+use mathlib.Core.List.{List, [], _∷_}
+use mathlib.Core.Logic.{by-cases}
+use mathlib.Core.Path.{_≡_, refl, sym, ap, _∙_}
+use native.Mathlib.Decide.{ℕ-discrete, decLt}
+use native.Mathlib.Numerals.{add-one}
+use native.Mathlib.Omega.{arith}
+use lib.ListN.{length, getD, set, take, drop}
+use lib.Seq.{take-set-lt, getD-set-same, getD-set-other, set-out}
+use mir.Syntax.{w64}
+use mir.Val.{Fits}
+use Rattle.records.specs.Base.{pick, all}
+use Rattle.records.specs.Room.{Room, roomOf, nodeCount, vmCount, clusterCheck}
+use Rattle.records.specs.Plan.{Move, Step, moveOf, stepAt, stepEnd, stepCount, stepsFrom, stepsOf, planCheck}
+use Rattle.records.specs.Inner.{Steps}
+use Rattle.records.specs.declared.faults.ClusterCheck.{ClusterCheck}
+use Rattle.records.specs.declared.faults.ClusterFault.{ClusterFault}
+use Rattle.records.specs.declared.faults.PlanCheck.{PlanCheck}
+use Rattle.records.specs.declared.faults.PlanFault.{PlanFault}
+use Rattle.records.proofs.Laws.Bools.{and-left, and-right}
+use Rattle.records.proofs.Laws.Steps.{steps-cons, steps-next, step-within, steps-start, steps-most}
+use Rattle.rules.specs.Moments.{Placement, currentOf, after}
+use Rattle.rules.specs.Rules.{named, targetCheck, stepCheck}
+use Rattle.rules.specs.Cost.{costOf}
+use Rattle.rules.specs.Verdict.{home, onCluster, onTarget, onPlan, onStep, stepsVerdict, planVerdict, verdictOf, faultNumber, faultStep, packed}
+use Rattle.rules.specs.Inner.{held, Placed, Holds, Walking, Given, stepOf}
+use Rattle.rules.specs.declared.faults.TargetFault.{TargetFault}
+use Rattle.rules.specs.declared.faults.TargetCheck.{TargetCheck}
+use Rattle.rules.specs.declared.faults.StepFault.{StepFault}
+use Rattle.rules.specs.declared.faults.StepCheck.{StepCheck}
+use Rattle.rules.specs.declared.faults.Fault.{Fault}
+use Rattle.rules.specs.declared.faults.Verdict.{Verdict}
+use Rattle.rules.proofs.Laws.Fit.{named-vm, named-to, named-rest}
+use Rattle.rules.proofs.Laws.Sound.{sound-none, sound-named}
+use Rattle.rules.proofs.Laws.Verdicts.{checked-holds}
+use Rattle.rules.specs.Promises.{Checked}
+
+-- ---- a placement in an array, after a step
+
+-- the moves of a well named step touch the first places only, and send to nodes that there are
+after-held : (s places : List ℕ) (start : Placement) (least : ℕ) (step : Step) → named (roomOf s) start least step ≡ true → held s (after places step) ≡ after (held s places) step
+unfolding after held
+after-held s places start least [] n = refl
+after-held s places start least (move ∷ moves) n =
+    after-held s (set places (move .vm) (move .to)) start (suc (move .vm)) moves (named-rest s start least move moves n) ∙
+    ap (λ (x : Placement). after x moves) (take-set-lt (vmCount s) places (move .vm) (move .to) (named-vm s start least move moves n))
+
+set-below : (s places : List ℕ) (v d : ℕ) → Placed s places → d < nodeCount s → Placed s (set places v d)
+set-below s places v d p h = record { below = below }
+  where
+    below : (u : ℕ) → getD (set places v d) u 0 < nodeCount s
+    below u =
+        by-cases (ℕ-discrete u v)
+        (λ q. by-cases (decLt v (length places))
+        (λ l. rw (ap (λ (k : ℕ). getD (set places v d) k 0) q ∙ getD-set-same places v d 0 l) h)
+        (λ l. rw (set-out places v d (omega arith)) (p .below u)))
+        (λ q. rw (getD-set-other places v u d 0 q) (p .below u))
+
+after-placed : (s places : List ℕ) (start : Placement) (least : ℕ) (step : Step) → named (roomOf s) start least step ≡ true → Placed s places → Placed s (after places step)
+unfolding after
+after-placed s places start least [] n p = p
+after-placed s places start least (move ∷ moves) n p =
+    after-placed s (set places (move .vm) (move .to)) start (suc (move .vm)) moves (named-rest s start least move moves n)
+    (set-below s places (move .vm) (move .to) p (named-to s start least move moves n))
+
+sound-step-named : (room : Room) (places : Placement) (step : Step) → stepCheck room places step ≡ StepCheck.Sound → named room places 0 step ≡ true
+sound-step-named room places step e = sound-named room places step (sound-none room places step .1 e)
+
+-- ---- the turns
+
+-- the verdict that is due: the cost of all the steps if nothing is found
+due : List ℕ → List ℕ → List ℕ → ℕ → List Step → Verdict
+due s plan places number steps = stepsVerdict (roomOf s) (Verdict.Accepted (costOf (roomOf s) (stepsOf plan))) (held s places) number steps
+
+due-cons : (s plan places : List ℕ) (number : ℕ) (step : Step) (steps : List Step) →
+    due s plan places number (step ∷ steps) ≡ onStep (stepCheck (roomOf s) (held s places) step) number (stepsVerdict (roomOf s) (Verdict.Accepted (costOf (roomOf s) (stepsOf plan))) (after (held s places) step) (suc number) steps)
+unfolding due stepsVerdict
+due-cons s plan places number step steps = refl
+
+module _ (s plan places : List ℕ) (at left number : ℕ) (w : Walking s plan places at left number) (z : 0 < left) (found : StepCheck)
+    (e : found ≡ stepCheck (roomOf s) (held s places) (stepAt plan at)) where
+  turn : onStep found number (stepsVerdict (roomOf s) (Verdict.Accepted (costOf (roomOf s) (stepsOf plan))) (after (held s places) (stepAt plan at)) (suc number) (stepsFrom plan (stepEnd plan at) (left - 1))) ≡
+      planVerdict (roomOf s) (stepsOf plan)
+  unfolding due
+  turn =
+      ap (λ (c : StepCheck). onStep c number (stepsVerdict (roomOf s) (Verdict.Accepted (costOf (roomOf s) (stepsOf plan))) (after (held s places) (stepAt plan at)) (suc number) (stepsFrom plan (stepEnd plan at) (left - 1)))) e ∙
+      sym (due-cons s plan places number (stepAt plan at) (stepsFrom plan (stepEnd plan at) (left - 1))) ∙
+      ap (due s plan places number) (sym (steps-cons plan at left (w .steps) z)) ∙ w .verdict
+
+  pub turn-faulty : (f : StepFault) → found ≡ StepCheck.Faulty f → Given (Verdict.Refused (Fault.Step f number)) (planVerdict (roomOf s) (stepsOf plan))
+  unfolding onStep
+  turn-faulty f q = let c = w .count in record { is = simp q at turn; most = omega arith }
+
+  module _ (q : found ≡ StepCheck.Sound) (next : List ℕ) (end : ℕ) (a : next ≡ after places (stepAt plan at)) (b : end ≡ stepEnd plan at) where
+    name : named (roomOf s) (held s places) 0 (stepAt plan at) ≡ true
+    name = sound-step-named (roomOf s) (held s places) (stepAt plan at) (sym e ∙ q)
+
+    rest-due : stepsVerdict (roomOf s) (Verdict.Accepted (costOf (roomOf s) (stepsOf plan))) (after (held s places) (stepAt plan at)) (suc number) (stepsFrom plan (stepEnd plan at) (left - 1)) ≡
+        planVerdict (roomOf s) (stepsOf plan)
+    unfolding onStep
+    rest-due = simp q at turn
+
+    pub turn-sound : Walking s plan next end (left - 1) (number + 1)
+    turn-sound =
+        let c = w .count in
+        record {
+          steps = rw b (steps-next plan at left (w .steps) z);
+          placed = rw a (after-placed s places (held s places) 0 (stepAt plan at) name (w .placed));
+          count = omega arith;
+          verdict = rw (a, b, after-held s places (held s places) 0 (stepAt plan at) name, add-one number) rest-due;
+        }
+
+pub walking-fits : (s plan places : List ℕ) (at left number : ℕ) → Walking s plan places at left number → 0 < left → stepEnd plan at ≤ length plan
+walking-fits s plan places at left number w z = step-within plan at left (w .steps) z
+
+pub walking-placed : (s plan places : List ℕ) (at left number : ℕ) → Walking s plan places at left number → Placed s places
+walking-placed s plan places at left number w = w .placed
+
+steps-of : (plan : List ℕ) → stepsFrom plan 7 (stepCount plan) ≡ stepsOf plan
+unfolding stepsOf
+steps-of plan = refl
+
+pub walking-start : (s plan places : List ℕ) (left : ℕ) → Holds s places (currentOf (roomOf s)) → left ≡ stepCount plan → planCheck plan ≡ PlanCheck.Whole → Walking s plan places 7 left 1
+unfolding planVerdict
+walking-start s plan places left h q p =
+    let m = steps-most plan p in
+    record {
+      steps = rw q (steps-start plan p);
+      placed = h .placed;
+      count = omega arith;
+      verdict = rw (h .is, q, steps-of plan);
+    }
+
+-- the end
+module _ (s plan places : List ℕ) (at left number : ℕ) (w : Walking s plan places at left number) (z : left ≤ 0) (ok : Bool) (e : ok ≡ home (roomOf s) (held s places)) where
+  last : pick ok (Verdict.Accepted (costOf (roomOf s) (stepsOf plan))) (Verdict.Refused Fault.OffTarget) ≡ planVerdict (roomOf s) (stepsOf plan)
+  unfolding stepsVerdict stepsFrom
+  last = let n : left ≡ 0 = omega arith in rw e (rw n at (w .verdict))
+
+  pub end-home : (cost : ℕ) → cost ≡ costOf (roomOf s) (stepsOf plan) → ok ≡ true → Given (Verdict.Accepted cost) (planVerdict (roomOf s) (stepsOf plan))
+  end-home cost c o = record { is = ap Verdict.Accepted c ∙ (simp o at last); most = omega arith }
+
+  pub end-away : ok ≡ false → Given (Verdict.Refused Fault.OffTarget) (planVerdict (roomOf s) (stepsOf plan))
+  end-away o = record { is = simp o at last; most = omega arith }
+
+-- ---- the checking order around them
+
+module _ (rest : Verdict) where
+  pub plan-damaged : (found check : PlanCheck) (f : PlanFault) → found ≡ check → found ≡ PlanCheck.Damaged f → Given (Verdict.Refused (Fault.Plan f)) (onPlan check rest)
+  unfolding onPlan
+  plan-damaged found check f e q = record { is = rw (sym e ∙ q); most = omega arith }
+
+  pub plan-fine : (found check : PlanCheck) (r : Verdict) → found ≡ check → Given r rest → found ≡ PlanCheck.Whole → Given r (onPlan check rest)
+  unfolding onPlan
+  plan-fine found check r e g q = rw (sym e ∙ q) g
+
+  pub target-fault : (found check : TargetCheck) (f : TargetFault) → found ≡ check → found ≡ TargetCheck.Unreachable f → Given (Verdict.Refused (Fault.Target f)) (onTarget check rest)
+  unfolding onTarget
+  target-fault found check f e q = record { is = rw (sym e ∙ q); most = omega arith }
+
+  pub target-fine : (found check : TargetCheck) (r : Verdict) → found ≡ check → Given r rest → found ≡ TargetCheck.Reachable → Given r (onTarget check rest)
+  unfolding onTarget
+  target-fine found check r e g q = rw (sym e ∙ q) g
+
+module _ (cluster plan : List ℕ) (found : ClusterCheck) (e : found ≡ clusterCheck cluster) where
+  pub cluster-damaged : (f : ClusterFault) → found ≡ ClusterCheck.Damaged f → Given (Verdict.Refused (Fault.Cluster f)) (verdictOf cluster plan)
+  unfolding verdictOf onCluster
+  cluster-damaged f q = record { is = rw (sym e ∙ q); most = omega arith }
+
+  pub cluster-fine : (r : Verdict) → Given r (onTarget (targetCheck (roomOf cluster)) (onPlan (planCheck plan) (planVerdict (roomOf cluster) (stepsOf plan)))) → found ≡ ClusterCheck.Whole →
+      Given r (verdictOf cluster plan)
+  unfolding verdictOf onCluster
+  cluster-fine r g q = rw (sym e ∙ q) g
+
+  pub cluster-whole : found ≡ ClusterCheck.Whole → clusterCheck cluster ≡ ClusterCheck.Whole
+  cluster-whole q = sym e ∙ q
+
+pub plan-is-whole : (plan : List ℕ) (found : PlanCheck) → found ≡ planCheck plan → found ≡ PlanCheck.Whole → planCheck plan ≡ PlanCheck.Whole
+plan-is-whole plan found e q = sym e ∙ q
+
+-- ---- the packing
+
+pub pack-refused : (v : Verdict) (f : Fault) (number step : ℕ) → v ≡ Verdict.Refused f → number ≡ faultNumber f → step ≡ faultStep f →
+    2 ^ 63 + number * 65536 + step ≡ packed v
+pack-refused v f number step e a b = rw (e, a, b)
+
+pub pack-fits : (v : Verdict) (f : Fault) (number step : ℕ) → v ≡ Verdict.Refused f → number < 256 → step ≡ faultStep f → stepOf v ≤ 512 → Fits w64 (2 ^ 63 + number * 65536 + step)
+pack-fits v f number step e a b m = let k : faultStep f ≤ 512 = rw e at m in record { fits = omega arith }
+
+pub checked-packed : (cluster plan : List ℕ) (v : Verdict) (r : ℕ) → Given v (verdictOf cluster plan) → r ≡ packed v → Checked cluster plan r
+checked-packed cluster plan v r g e = checked-holds cluster plan r (e ∙ ap packed (g .is))

@@ -1,0 +1,23 @@
+use Rattle.rules.proofs.Laws.Turns.{checked-packed}
+use borrow.Author.Needs.{needs}
+use Rattle.rules.proofs.check.Statement.{statement}
+use Rattle.rules.proofs.check.Tie as tie
+use Rattle.rules.proofs.check.Reads as reads
+use Rattle.rules.proofs.check.Lts as lts
+use Rattle.rules.proofs.verdict.pack.Reads as pack-reads
+use Rattle.rules.proofs.verdict.verdict_on.Reads as verdict-on-reads
+
+-- src/lib.rt:45:19
+verdict-on-requires : tie.Need-verdict-on-requires
+verdict-on-requires c κs = search needs
+
+-- src/lib.rt:45:5
+pack-requires : tie.Need-pack-requires
+pack-requires c κs = search needs
+
+-- src/lib.rt:41:1
+returns : tie.Need-returns
+returns c = search (needs, checked-packed)
+
+pub check-spec : {M : Type 1} → statement M
+check-spec = tie.close (tie.spec verdict-on-requires pack-requires returns)
