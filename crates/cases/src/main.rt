@@ -1,8 +1,9 @@
-// Records at the edge of each refusal, and the number that the library gives each: 0 is none.
+// Records at the edge of each refusal, with the number that the library gives each (0 is none), and verdicts on whole plans.
 mod build;
 mod clusters;
 mod plans;
 mod show;
+mod verdicts;
 
 fn main() {
     let mut b = [0u8; 65536];
@@ -16,4 +17,13 @@ fn main() {
     plans::header(&mut b);
     plans::shape(&mut b);
     plans::totals(&mut b);
+    verdicts::paper();
+    verdicts::paper_2();
+    verdicts::naming();
+    verdicts::naming_2();
+    verdicts::fitting();
+    verdicts::fitting_2();
+    verdicts::mates();
+    verdicts::target();
+    verdicts::target_2();
 }

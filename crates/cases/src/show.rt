@@ -1,6 +1,7 @@
 // One line for each case: the number that its record gets, and what it is.
 use records::ClusterCheck;
 use records::PlanCheck;
+use rules::Verdict;
 
 fn line(label: &[u8], number: u64) {
     io::print_decimal(1, number);
@@ -45,4 +46,21 @@ pub fn cluster(b: &[u8; 65536], n: usize, label: &[u8]) {
 // The first n bytes as a plan record.
 pub fn plan(b: &[u8; 65536], n: usize, label: &[u8]) {
     plan_part(b, n, label);
+}
+
+// The verdict on a plan for a cluster.
+pub fn verdict(cluster: &[u8], plan: &[u8], label: &[u8]) {
+    let found = rules::verdict_on(cluster, plan);
+    match found {
+        Verdict::Accepted(cost) => {
+            io::write_all(1, b"accepted cost ");
+            line(label, cost);
+        }
+        Verdict::Refused(f) => {
+            io::write_all(1, b"refused ");
+            io::print_decimal(1, rules::fault_number(f));
+            io::write_all(1, b" step ");
+            line(label, rules::fault_step(f) as u64);
+        }
+    }
 }

@@ -130,7 +130,7 @@ partsEnd s at (suc n) = partsEnd s (partEnd s at) n
 unfoldable pub partsOf : List ℕ → List (List ℕ)
 partsOf s = partsFrom s (constraintsStart s) (constraintCount s)
 
--- in a part: a VM list is a count of two bytes and the VMs, a node list a count of one byte and the nodes
+-- the lists in a part: VMs behind a count of two bytes, nodes behind one of one byte; and where each ends
 unfoldable pub vmsAt : List ℕ → ℕ → List ℕ
 vmsAt p at = take (be16 p at) (drop (at + 2) p)
 
@@ -241,7 +241,7 @@ unfoldable pub clusterCheck : List ℕ → ClusterCheck
 clusterCheck s =
     refuse (ltb (length s) 11) TooShort
     (refuse (not (eqb (byteAt s 0) 1)) Version
-    (refuse (not (eqb (be32 s 1) (length s)) || ltb 65535 (length s)) Length
+    (refuse (not (eqb (be32 s 1) (length s)) || ltb 65535 (be32 s 1)) Length
     (refuse (not (countsOk s)) Counts
     (refuse (not (eqb (partsEnd s (constraintsStart s) (constraintCount s)) (length s))) Fill
     (refuse (not (all (vmOk (nodeCount s)) (roomOf s .vms))) VmRow

@@ -33,13 +33,13 @@ pub fn constraints(s: &[u8]) -> usize
 // Whether the stated length is not that of the bytes lent, or is too large. All four bytes count.
 pub fn length_wrong(s: &[u8]) -> bool
     requires { ⌜ 11 ≤ length (now s) ⌝ }
-    ensures { λ r. ⌜ r ≡ (not (eqb (be32 (now (s .entry)) 1) (length (now (s .entry)))) || ltb 65535 (length (now (s .entry)))) ⌝ }
+    ensures { λ r. ⌜ r ≡ (not (eqb (be32 (now (s .entry)) 1) (length (now (s .entry)))) || ltb 65535 (be32 (now (s .entry)) 1)) ⌝ }
 {
     let stated = be32(s, 1) as usize;
     if stated != s.len() {
         return true;
     }
-    65535 < s.len()
+    65535 < stated
 }
 
 // Whether the three counts are in their ranges.

@@ -17,3 +17,5 @@ pub mod Costs
 pub mod Targets
 pub mod Kept
 pub mod Turns
+pub mod Planned
+pub mod Adding

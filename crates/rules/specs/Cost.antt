@@ -9,12 +9,12 @@ use Rattle.records.specs.Plan.{Move, Step}
 unfoldable pub memoryOf : Room → Move → ℕ
 memoryOf room move = vmOf room (move .vm) .memory
 
--- (8) a step costs the largest memory that it moves
+-- (8) the cost of a step: the maximum of the memories it copies
 unfoldable pub stepCost : Room → Step → ℕ
 stepCost room [] = 0
 stepCost room (move ∷ moves) = max (memoryOf room move) (stepCost room moves)
 
--- (7) a move costs its memory and the costs of all steps before it; (6) steps cost the sum over their moves
+-- (7) a move behind steps that cost `before` in all adds that to its memory; (6) the sum of this over all moves of all steps
 unfoldable pub costFrom : Room → ℕ → List Step → ℕ
 costFrom room before [] = 0
 costFrom room before (step ∷ steps) = sumOf (λ move. memoryOf room move + before) step + costFrom room (before + stepCost room step) steps

@@ -216,10 +216,16 @@ abbrev pub stepOf : Verdict → ℕ
 stepOf (Verdict.Accepted cost) = 0
 stepOf (Verdict.Refused fault) = faultStep fault
 
--- a verdict is the one defined, and its step is at most 512
+-- the cost that it gives, 0 where it gives none
+abbrev pub costIn : Verdict → ℕ
+costIn (Verdict.Accepted cost) = cost
+costIn (Verdict.Refused fault) = 0
+
+-- a verdict is the one defined, its step is at most 512 and its cost below 2 to the 43
 pub record Given (r verdict : Verdict) : Type 0 where
   pub is : r ≡ verdict
   pub most : stepOf r ≤ 512
+  pub below : costIn r < 2 ^ 43
 
 -- the checker before the last n steps: where they start, where the VMs are, the number of the next, and what is still due
 pub record Walking (s plan places : List ℕ) (at n number : ℕ) : Type 0 where

@@ -1,4 +1,5 @@
--- What the rules mean. Read Moments, Orders, Rules, Cost, Verdict, Promises in that order; Inner is cited only by inner contracts.
+-- What the rules mean. Read Moments, Orders, Rules, Cost, Verdict, Promises in that order. Inner is what
+-- functions between the crates and inside them answer; no promise of `check` rests on its words.
 pub mod Moments
 pub mod Orders
 pub mod Rules

@@ -23,7 +23,7 @@ currentOf room = map (λ vm. vm .current) (room .vms)
 unfoldable pub targetOf : Room → Placement
 targetOf room = map (λ vm. vm .target) (room .vms)
 
--- the placement that a step leaves: each VM it moves on its destination, all others where they were
+-- what a step makes of a placement: its moves, put in one by one
 unfoldable pub after : Placement → Step → Placement
 after places [] = places
 after places (move ∷ moves) = after (set places (move .vm) (move .to)) moves
@@ -39,7 +39,7 @@ withVm tally vm = record { memory = tally .memory + vm .memory; cpu = tally .cpu
 unfoldable pub within : Node → Tally → Bool
 within node tally = leb (tally .memory) (node .memory) && leb (tally .cpu) (node .cpu)
 
--- in a step a VM has no move, or one that is waiting, running or ended, with its destination
+-- how far a VM's move in a step has come, with its destination; idle if it has none
 pub data Phase : Type 0 where
   idle : Phase
   waiting : ℕ → Phase
@@ -81,6 +81,10 @@ cellsFrom places step v (suc n) = cell v (placeOf places v) (phaseOf step v) ∷
 
 unfoldable pub firstMoment : Room → Placement → Step → Moment
 firstMoment room places step = cellsFrom places step 0 (length (room .vms))
+
+-- all VMs at rest on a placement, no move under way
+abbrev pub atRest : Room → Placement → Moment
+atRest room places = firstMoment room places []
 
 -- the moment at which every move of the step runs
 unfoldable pub begun : Phase → Phase

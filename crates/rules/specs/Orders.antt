@@ -7,7 +7,7 @@ use mathlib.Core.Path.{_≡_}
 use lib.Dec.{eqb}
 use Rattle.records.specs.Room.{Constraint, ban, fence, spread, latency, has, Room, Vm, Node, vmOf, nodeOf}
 use Rattle.records.specs.Plan.{Move, Step}
-use Rattle.rules.specs.Moments.{Placement, Phase, idle, waiting, running, ended, Cell, cell, Moment, numberOf, countsOn, within, withVm, tallyAt, firstMoment, settled, placesLeft}
+use Rattle.rules.specs.Moments.{Placement, Phase, idle, waiting, running, ended, Cell, cell, Moment, numberOf, countsOn, within, withVm, tallyAt, firstMoment, atRest, settled, placesLeft}
 
 -- ---- what happens in a step
 
@@ -27,7 +27,7 @@ pub data Order : Moment → Moment → Type 0 where
   done : {cs : Moment} → Order cs cs
   next : {cs ds es : Moment} {a : Act} → Event cs a ds → Order ds es → Order cs es
 
--- a run over steps: an order for each, each later step from the placement that the step before leaves
+-- a run: one order after another, the second starting where the first ended, and so on
 pub data Run (room : Room) : Placement → List Step → Placement → Type 0 where
   stop : {places : Placement} → Run room places [] places
   step : {places last : Placement} {moves : Step} {steps : List Step} {end : Moment} →
@@ -36,7 +36,7 @@ pub data Run (room : Room) : Placement → List Step → Placement → Type 0 wh
 
 -- ---- when a move may begin
 
--- the VM fits on the node: its memory and CPU there, the VM included, are within capacity
+-- the VM fits: with it, the node's tally at this moment is within what the node has
 unfoldable pub fits : Room → Moment → ℕ → ℕ → Bool
 fits room cs v d = within (nodeOf room d) (withVm (tallyAt room d cs) (vmOf room v))
 
@@ -77,14 +77,24 @@ abbrev pub EachMoment : (Q : Moment → Type 0) {cs ds : Moment} → Order cs ds
 EachMoment Q (done {cs = cs}) = Q cs
 EachMoment Q (next {cs = cs} e o) = Q cs × EachMoment Q o
 
--- the same over a whole run
+-- R holds between each moment of an order and the next
+abbrev pub EachChange : (R : Moment → Moment → Type 0) {cs ds : Moment} → Order cs ds → Type 0
+EachChange R done = Unit
+EachChange R (next {cs = cs} {ds = ds} e o) = R cs ds × EachChange R o
+
+-- the same over a whole run. Between two steps all VMs are at rest; a run with no steps has that moment alone
 abbrev pub EachBeginOfRun : (P : Moment → ℕ → ℕ → Type 0) {room : Room} {places last : Placement} {steps : List Step} → Run room places steps last → Type 0
 EachBeginOfRun P stop = Unit
 EachBeginOfRun P (step o s r) = EachBegin P o × EachBeginOfRun P r
 
 abbrev pub EachMomentOfRun : (Q : Moment → Type 0) {room : Room} {places last : Placement} {steps : List Step} → Run room places steps last → Type 0
-EachMomentOfRun Q stop = Unit
+EachMomentOfRun Q {room = room} (stop {places = places}) = Q (atRest room places)
 EachMomentOfRun Q (step o s r) = EachMoment Q o × EachMomentOfRun Q r
+
+abbrev pub EachChangeOfRun : (R : Moment → Moment → Type 0) {room : Room} {places last : Placement} {steps : List Step} → Run room places steps last → Type 0
+EachChangeOfRun R stop = Unit
+EachChangeOfRun R {room = room} (step {places = places} {moves = moves} {end = end} o s r) =
+    R (atRest room places) (firstMoment room places moves) × EachChange R o × R end (atRest room (placesLeft end)) × EachChangeOfRun R r
 
 -- a move may begin: it fits, and meets no mate
 pub record MayBegin (room : Room) (cs : Moment) (v d : ℕ) : Type 0 where

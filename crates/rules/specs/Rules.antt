@@ -7,12 +7,12 @@ use lib.Dec.{ltb, leb, eqb}
 use Rattle.records.specs.Base.{pick, all}
 use Rattle.records.specs.Room.{Constraint, ban, fence, spread, latency, has, vmsOf, Room, nodeOf, vmOf}
 use Rattle.records.specs.Plan.{Move, Step}
-use Rattle.rules.specs.Moments.{Placement, placeOf, targetOf, Moment, within, tallyAt, firstMoment, allRunning}
+use Rattle.rules.specs.Moments.{Placement, placeOf, targetOf, Moment, within, tallyAt, firstMoment, atRest, allRunning}
 use Rattle.rules.specs.Orders.{some, meetsMate}
 use Rattle.rules.specs.declared.faults.TargetFault.{TargetFault}
 use Rattle.rules.specs.declared.faults.TargetFault.the-variants.{Overfull, Broken}
 use Rattle.rules.specs.declared.faults.TargetCheck.{TargetCheck}
-use Rattle.rules.specs.declared.faults.TargetCheck.the-variants.{Reachable, Unreachable}
+use Rattle.rules.specs.declared.faults.TargetCheck.the-variants.{Good, Bad}
 use Rattle.rules.specs.declared.faults.StepFault.{StepFault}
 use Rattle.rules.specs.declared.faults.StepFault.the-variants.{Misnamed, Forbidden, Misfit, Mate}
 use Rattle.rules.specs.declared.faults.StepCheck.{StepCheck}
@@ -33,16 +33,16 @@ allowed room v d = all (λ k. not (has (vmsOf k) v && keepsFrom k d)) (room .con
 
 -- ---- the target
 
--- the numbers below n
+-- n numbers from v on
 unfoldable pub from : ℕ → ℕ → List ℕ
 from v zero = []
 from v (suc n) = v ∷ from (suc v) n
 
 -- 8: the tally of every node, all VMs at rest on a placement, is within what the node has
 unfoldable pub fitsAll : Room → Placement → Bool
-fitsAll room places = all (λ d. within (nodeOf room d) (tallyAt room d (firstMoment room places []))) (from 0 (length (room .nodes)))
+fitsAll room places = all (λ d. within (nodeOf room d) (tallyAt room d (atRest room places))) (from 0 (length (room .nodes)))
 
--- no two of the VMs share a node
+-- the VMs are on nodes of their own
 unfoldable pub spreadOut : Placement → List ℕ → Bool
 spreadOut places [] = true
 spreadOut places (v ∷ vs) = all (λ w. not (eqb (placeOf places v) (placeOf places w))) vs && spreadOut places vs
@@ -57,9 +57,9 @@ keeps places (latency vms groups) = eqb (length vms) 0 || some (λ g. all (λ v.
 -- the target's fault
 unfoldable pub targetCheck : Room → TargetCheck
 targetCheck room =
-    pick (not (fitsAll room (targetOf room))) (Unreachable Overfull)
-    (pick (not (all (keeps (targetOf room)) (room .constraints))) (Unreachable Broken)
-    Reachable)
+    pick (not (fitsAll room (targetOf room))) (Bad Overfull)
+    (pick (not (all (keeps (targetOf room)) (room .constraints))) (Bad Broken)
+    Good)
 
 -- ---- a step
 
@@ -70,7 +70,7 @@ named room places least (move ∷ moves) =
     (leb least (move .vm) && ltb (move .vm) (length (room .vms))) &&
     ((ltb (move .to) (length (room .nodes)) && not (eqb (move .to) (placeOf places (move .vm)))) && named room places (suc (move .vm)) moves)
 
--- 16
+-- 16: every destination is one that its VM may go to
 unfoldable pub permitted : Room → Step → Bool
 permitted room step = all (λ move. allowed room (move .vm) (move .to)) step
 
@@ -94,6 +94,6 @@ stepCheck room places step =
     (pick (not (unmet room places step)) (Faulty Mate)
     Sound)))
 
--- a step is sound: it has none of the faults
+-- a step is sound: it passes the four tests. (Laws.Runs: order-obeys and step-sound tie this to every order of the step.)
 unfoldable pub soundStep : Room → Placement → Step → Bool
 soundStep room places step = named room places 0 step && (permitted room step && (fitting room places step && unmet room places step))

@@ -31,8 +31,8 @@ onCluster ClusterCheck.Whole rest = rest
 onCluster (ClusterCheck.Damaged fault) rest = Refused (Cluster fault)
 
 unfoldable pub onTarget : TargetCheck → Verdict → Verdict
-onTarget TargetCheck.Reachable rest = rest
-onTarget (TargetCheck.Unreachable fault) rest = Refused (Target fault)
+onTarget TargetCheck.Good rest = rest
+onTarget (TargetCheck.Bad fault) rest = Refused (Target fault)
 
 unfoldable pub onPlan : PlanCheck → Verdict → Verdict
 onPlan PlanCheck.Whole rest = rest
@@ -42,7 +42,7 @@ unfoldable pub onStep : StepCheck → ℕ → Verdict → Verdict
 onStep StepCheck.Sound number rest = rest
 onStep (StepCheck.Faulty fault) number rest = Refused (AtStep fault number)
 
--- steps in turn, the first with a number: the first fault of the first step at fault, then 19, else what is good
+-- the steps one by one, `number` being that of the next: the first fault found, then 19, else `good`
 unfoldable pub stepsVerdict : Room → Verdict → Placement → ℕ → List Step → Verdict
 stepsVerdict room good places number [] = pick (home room places) good (Refused OffTarget)
 stepsVerdict room good places number (step ∷ steps) =
@@ -56,12 +56,12 @@ planVerdict room steps = stepsVerdict room (Accepted (costOf room steps)) (curre
 -- the whole checking order: 1 to 7, 8 and 9, 11 to 14, then the steps
 unfoldable pub verdictOf : List ℕ → List ℕ → Verdict
 verdictOf cluster plan =
-    let steps = planVerdict (roomOf cluster) (stepsOf plan) in
-    let shape = onPlan (planCheck plan) steps in
-    let target = onTarget (targetCheck (roomOf cluster)) shape in
-    onCluster (clusterCheck cluster) target
+    onCluster (clusterCheck cluster)
+    (onTarget (targetCheck (roomOf cluster))
+    (onPlan (planCheck plan)
+    (planVerdict (roomOf cluster) (stepsOf plan))))
 
--- 01's number of each fault, and its step: 0 unless the number is 15 to 18
+-- 01's number of each fault, and the step that goes with it (a fault of no step: 0)
 abbrev pub targetNumber : TargetFault → ℕ
 targetNumber TargetFault.Overfull = 8
 targetNumber TargetFault.Broken = 9

@@ -1,4 +1,5 @@
-// What the steps of a plan cost: Entropy's estimate, by its recurrence, one call for each step.
+// What the steps of a plan cost: Entropy's estimate, by its recurrence, one call for each step. A move costs at most 512 times the
+// largest memory, 8,589,934,080, so a plan costs less than 2 to the 43.
 ghost use mathlib.Core.Path.{_≡_};
 ghost use Prim.Native.Nat.{_+_, _*_, _≤_, _<_, _^_, max};
 ghost use lib.ListN.{length};
@@ -47,8 +48,8 @@ fn larger(a: u64, b: u64) -> u64
 
 // The sum over the moves of the step at a place, each its memory and the costs of the steps before.
 fn step_sum(cluster: &[u8], plan: &[u8], at: usize, before: u64) -> u64
-    requires { ⌜ (clusterCheck (now cluster) ≡ ClusterCheck.Whole) × (stepEnd (now plan) at ≤ length (now plan)) × (before ≤ 2 ^ 33) ⌝ }
-    ensures { λ r. ⌜ (r ≡ movesCost (roomOf (now (cluster .entry))) before (stepAt (now (plan .entry)) at)) × (r ≤ length (stepAt (now (plan .entry)) at) * 2 ^ 34) ⌝ }
+    requires { ⌜ (clusterCheck (now cluster) ≡ ClusterCheck.Whole) × (stepEnd (now plan) at ≤ length (now plan)) × (before + 16777215 ≤ 8589934080) ⌝ }
+    ensures { λ r. ⌜ (r ≡ movesCost (roomOf (now (cluster .entry))) before (stepAt (now (plan .entry)) at)) × (r ≤ length (stepAt (now (plan .entry)) at) * 8589934080) ⌝ }
 {
     let mut i = records::move_count(plan, at);
     let mut sum: u64 = 0;
@@ -61,8 +62,8 @@ fn step_sum(cluster: &[u8], plan: &[u8], at: usize, before: u64) -> u64
 
 // The cost of so many steps from a place, behind steps of a given cost.
 fn cost_from(cluster: &[u8], plan: &[u8], at: usize, left: usize, before: u64) -> u64
-    requires { ⌜ (clusterCheck (now cluster) ≡ ClusterCheck.Whole) × Steps (now plan) at left × (before + left * 2 ^ 24 ≤ 2 ^ 33) ⌝ }
-    ensures { λ r. ⌜ (r ≡ costFrom (roomOf (now (cluster .entry))) before (stepsFrom (now (plan .entry)) at left)) × (r ≤ moveTotal (stepsFrom (now (plan .entry)) at left) * 2 ^ 34) ⌝ }
+    requires { ⌜ (clusterCheck (now cluster) ≡ ClusterCheck.Whole) × Steps (now plan) at left × (before + left * 16777215 ≤ 8589934080) ⌝ }
+    ensures { λ r. ⌜ (r ≡ costFrom (roomOf (now (cluster .entry))) before (stepsFrom (now (plan .entry)) at left)) × (r ≤ moveTotal (stepsFrom (now (plan .entry)) at left) * 8589934080) ⌝ }
 {
     if left == 0 {
         return 0;
@@ -82,7 +83,7 @@ fn cost_from(cluster: &[u8], plan: &[u8], at: usize, left: usize, before: u64) -
 // The cost of a plan.
 pub fn plan_cost(cluster: &[u8], plan: &[u8]) -> u64
     requires { ⌜ (clusterCheck (now cluster) ≡ ClusterCheck.Whole) × (planCheck (now plan) ≡ PlanCheck.Whole) ⌝ }
-    ensures { λ r. ⌜ (r ≡ costOf (roomOf (now (cluster .entry))) (stepsOf (now (plan .entry)))) × (r ≤ 2 ^ 44) ⌝ }
+    ensures { λ r. ⌜ (r ≡ costOf (roomOf (now (cluster .entry))) (stepsOf (now (plan .entry)))) × (r < 2 ^ 43) ⌝ }
 {
     cost_from(cluster, plan, 7, records::step_count(plan), 0)
 }

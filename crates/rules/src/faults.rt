@@ -11,8 +11,8 @@ pub enum TargetFault {
 }
 
 pub enum TargetCheck {
-    Reachable,
-    Unreachable(TargetFault),
+    Good,
+    Bad(TargetFault),
 }
 
 pub enum StepFault {

@@ -135,12 +135,12 @@ pub fn target_check(cluster: &[u8]) -> TargetCheck
 {
     let places = target_places(cluster);
     if !places_fit(cluster, &places) {
-        return TargetCheck::Unreachable(TargetFault::Overfull);
+        return TargetCheck::Bad(TargetFault::Overfull);
     }
     if !all_kept(cluster, &places) {
-        return TargetCheck::Unreachable(TargetFault::Broken);
+        return TargetCheck::Bad(TargetFault::Broken);
     }
-    TargetCheck::Reachable
+    TargetCheck::Good
 }
 
 // 19: whether every VM is on its target.

@@ -72,8 +72,8 @@ fn target_verdict(cluster: &[u8], plan: &[u8]) -> Verdict
 {
     let found = target_check(cluster);
     match found {
-        TargetCheck::Unreachable(f) => Verdict::Refused(Fault::Target(f)),
-        TargetCheck::Reachable => plan_verdict(cluster, plan),
+        TargetCheck::Bad(f) => Verdict::Refused(Fault::Target(f)),
+        TargetCheck::Good => plan_verdict(cluster, plan),
     }
 }
 

@@ -45,7 +45,7 @@ module _ (s : List ℕ) where
     unfolding clusterCheck
     fault-version h2 = simp (le-ltb (length s) 11 h1, ne-eqb (byteAt s 0) 1 (λ q. h2 (e1 ∙ q)))
 
-    module _ (wrong : Bool) (e2 : wrong ≡ (not (eqb (be32 s 1) (length s)) || ltb 65535 (length s))) (h2 : version ≡ 1) where
+    module _ (wrong : Bool) (e2 : wrong ≡ (not (eqb (be32 s 1) (length s)) || ltb 65535 (be32 s 1))) (h2 : version ≡ 1) where
       pub fault-length : wrong ≡ true → Damaged Length ≡ clusterCheck s
       unfolding clusterCheck
       fault-length h3 = simp (le-ltb (length s) 11 h1, eq-eqb (byteAt s 0) 1 (sym e1 ∙ h2), sym e2 ∙ h3)
@@ -91,23 +91,24 @@ passed : (test : Bool) (f : ClusterFault) (rest : ClusterCheck) → pick test (D
 passed true f rest e = let z : _≡_ {A = ℕ} 0 1 = cc in absurd (omega arith)
 passed false f rest e = (refl, e)
 
-or-none : (a b : Bool) → (a || b) ≡ false → b ≡ false
+or-none : (a b : Bool) → (a || b) ≡ false → (a ≡ false) × (b ≡ false)
 or-none true b e = let z : _≡_ {A = ℕ} 0 1 = cc in absurd (omega arith)
-or-none false b e = e
+or-none false b e = (refl, e)
 
 pub undamaged : (s : List ℕ) → clusterCheck s ≡ Whole → Undamaged s
 unfolding clusterCheck
 undamaged s w =
     let a = passed (ltb (length s) 11) TooShort _ w in
     let b = passed (not (eqb (byteAt s 0) 1)) Version _ (a .1) in
-    let c = passed (not (eqb (be32 s 1) (length s)) || ltb 65535 (length s)) Length _ (b .1) in
+    let c = passed (not (eqb (be32 s 1) (length s)) || ltb 65535 (be32 s 1)) Length _ (b .1) in
     let d = passed (not (countsOk s)) Counts _ (c .1) in
     let e = passed (not (eqb (partsEnd s (constraintsStart s) (constraintCount s)) (length s))) Fill _ (d .1) in
     let f = passed (not (all (vmOk (nodeCount s)) (roomOf s .vms))) VmRow _ (e .1) in
+    let h = or-none (not (eqb (be32 s 1) (length s))) (ltb 65535 (be32 s 1)) (c .0) in
     let g = passed (not (all (wellFormed (vmCount s) (nodeCount s)) (partsOf s))) Constraint Whole (f .1) in
     record {
       long = ltb-false (length s) 11 (a .0);
-      most = ltb-false 65535 (length s) (or-none (not (eqb (be32 s 1) (length s))) (ltb 65535 (length s)) (c .0));
+      most = rw (← eqb-true (be32 s 1) (length s) (not-false (eqb (be32 s 1) (length s)) (h .0))) (ltb-false 65535 (be32 s 1) (h .1));
       counts = not-false (countsOk s) (d .0);
       ends = eqb-true (partsEnd s (constraintsStart s) (constraintCount s)) (length s) (not-false _ (e .0));
       rows = not-false (all (vmOk (nodeCount s)) (roomOf s .vms)) (f .0);

@@ -27,11 +27,11 @@ rows-at read width at (suc n) (suc i) d h = rows-at read width (at + width) n i 
 -- ---- the header
 
 module _ (s : List ℕ) (stated : ℕ) (e : stated ≡ be32 s 1) where
-  pub length-differs : (stated ≡ length s → ⊥) → true ≡ (not (eqb (be32 s 1) (length s)) || ltb 65535 (length s))
+  pub length-differs : (stated ≡ length s → ⊥) → true ≡ (not (eqb (be32 s 1) (length s)) || ltb 65535 (be32 s 1))
   length-differs n = rw (ne-eqb (be32 s 1) (length s) (λ q. n (e ∙ q)))
 
-  pub length-same : stated ≡ length s → ltb 65535 (length s) ≡ (not (eqb (be32 s 1) (length s)) || ltb 65535 (length s))
-  length-same q = rw (eq-eqb (be32 s 1) (length s) (sym e ∙ q))
+  pub length-same : stated ≡ length s → ltb 65535 stated ≡ (not (eqb (be32 s 1) (length s)) || ltb 65535 (be32 s 1))
+  length-same q = rw (eq-eqb (be32 s 1) (length s) (sym e ∙ q), e)
 
 module _ (s : List ℕ) (n : ℕ) (e : n ≡ nodeCount s) where
   pub counts-none : n < 1 → false ≡ countsOk s

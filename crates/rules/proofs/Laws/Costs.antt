@@ -54,7 +54,7 @@ max-end s plan at i most inv h = let z : i ≡ 0 = omega arith in rw z at inv
 pub sum-end : (s plan : List ℕ) (at i before sum : ℕ) → sum ≡ movesCost (roomOf s) before (drop i (stepAt plan at)) → i ≤ 0 → sum ≡ movesCost (roomOf s) before (stepAt plan at)
 sum-end s plan at i before sum inv h = let z : i ≡ 0 = omega arith in rw z at inv
 
-pub sum-most : (plan : List ℕ) (at i sum : ℕ) → sum + i * 2 ^ 34 ≤ moveCount plan at * 2 ^ 34 → sum ≤ length (stepAt plan at) * 2 ^ 34
+pub sum-most : (plan : List ℕ) (at i sum : ℕ) → sum + i * 8589934080 ≤ moveCount plan at * 8589934080 → sum ≤ length (stepAt plan at) * 8589934080
 sum-most plan at i sum h = rw (step-length plan at) (omega arith)
 
 -- ---- the recurrence
@@ -72,13 +72,13 @@ module _ (s plan : List ℕ) (at left before own most rest end : ℕ) (w : Steps
   unfolding costFrom movesCost
   cost-more e f g = rw (steps-cons plan at left w some) (rw (e, g, f, b))
 
-  pub cost-most : own ≤ length (stepAt plan at) * 2 ^ 34 → rest ≤ moveTotal (stepsFrom plan end (left - 1)) * 2 ^ 34 → own + rest ≤ moveTotal (stepsFrom plan at left) * 2 ^ 34
+  pub cost-most : own ≤ length (stepAt plan at) * 8589934080 → rest ≤ moveTotal (stepsFrom plan end (left - 1)) * 8589934080 → own + rest ≤ moveTotal (stepsFrom plan at left) * 8589934080
   cost-most e g =
       let t : moveTotal (stepsFrom plan at left) ≡ length (stepAt plan at) + moveTotal (stepsFrom plan end (left - 1)) =
       ap moveTotal (steps-cons plan at left w some) ∙ total-cons (stepAt plan at) (stepsFrom plan (stepEnd plan at) (left - 1)) ∙ ap (λ (k : ℕ). length (stepAt plan at) + moveTotal (stepsFrom plan k (left - 1))) (sym b) in
       omega arith
 
-  pub cost-fits : own ≤ length (stepAt plan at) * 2 ^ 34 → rest ≤ moveTotal (stepsFrom plan end (left - 1)) * 2 ^ 34 → Fits w64 (own + rest)
+  pub cost-fits : own ≤ length (stepAt plan at) * 8589934080 → rest ≤ moveTotal (stepsFrom plan end (left - 1)) * 8589934080 → Fits w64 (own + rest)
   cost-fits e g = let m = cost-most e g in let t = w .total in record { fits = omega arith }
 
   pub cost-next : Steps plan end (left - 1)
@@ -94,5 +94,5 @@ cost-whole s plan n r q e = e ∙ rw q
 pub cost-start : (plan : List ℕ) (n : ℕ) → n ≡ stepCount plan → planCheck plan ≡ Whole → Steps plan 7 n
 cost-start plan n q w = rw q (steps-start plan w)
 
-pub cost-bound : (plan : List ℕ) (n r : ℕ) → n ≡ stepCount plan → planCheck plan ≡ Whole → r ≤ moveTotal (stepsFrom plan 7 n) * 2 ^ 34 → r ≤ 2 ^ 44
+pub cost-bound : (plan : List ℕ) (n r : ℕ) → n ≡ stepCount plan → planCheck plan ≡ Whole → r ≤ moveTotal (stepsFrom plan 7 n) * 8589934080 → r < 2 ^ 43
 cost-bound plan n r q w h = let t = cost-start plan n q w .total in omega arith

@@ -19,7 +19,7 @@ use Rattle.rules.specs.Orders.{some}
 use Rattle.rules.specs.Rules.{fitsAll, spreadOut, keeps, targetCheck}
 use Rattle.rules.specs.Inner.{held, Placed, Holds, Low, Formed, stopped, goUnmet, clearOf, groupHolds, keepsIn}
 use Rattle.rules.specs.declared.faults.TargetFault.the-variants.{Overfull, Broken}
-use Rattle.rules.specs.declared.faults.TargetCheck.the-variants.{Reachable, Unreachable}
+use Rattle.rules.specs.declared.faults.TargetCheck.the-variants.{Good, Bad}
 use Rattle.rules.proofs.Laws.Allow.{walk-below, stopped-at}
 use Rattle.rules.proofs.Laws.Fit.{held-at}
 use Rattle.rules.proofs.Laws.Meet.{arrives, go-arrives, marks-none, has-below, constraints-ok}
@@ -161,7 +161,7 @@ module _ (s places : List ℕ) (w : clusterCheck s ≡ Whole) (h : Holds s place
   fit-is : fit ≡ fitsAll (roomOf s) (targetOf (roomOf s))
   fit-is = e ∙ ap (fitsAll (roomOf s)) (h .is)
 
-  pub target-overfull : fit ≡ false → Unreachable Overfull ≡ targetCheck (roomOf s)
+  pub target-overfull : fit ≡ false → Bad Overfull ≡ targetCheck (roomOf s)
   unfolding targetCheck
   target-overfull o = simp (sym fit-is ∙ o)
 
@@ -169,13 +169,13 @@ module _ (s places : List ℕ) (w : clusterCheck s ≡ Whole) (h : Holds s place
     kept-target : kept ≡ all (keeps (targetOf (roomOf s))) (roomOf s .constraints)
     kept-target = f ∙ all-kept-is s places l (roomOf s .constraints) (constraints-ok s w) ∙ ap (λ (x : Placement). all (keeps x) (roomOf s .constraints)) (h .is)
 
-    pub target-broken : kept ≡ false → Unreachable Broken ≡ targetCheck (roomOf s)
+    pub target-broken : kept ≡ false → Bad Broken ≡ targetCheck (roomOf s)
     unfolding targetCheck
     target-broken p = simp (sym fit-is ∙ o, sym kept-target ∙ p)
 
-    pub target-reachable : kept ≡ true → Reachable ≡ targetCheck (roomOf s)
+    pub target-good : kept ≡ true → Good ≡ targetCheck (roomOf s)
     unfolding targetCheck
-    target-reachable p = simp (sym fit-is ∙ o, sym kept-target ∙ p)
+    target-good p = simp (sym fit-is ∙ o, sym kept-target ∙ p)
 
 pub holds-placed : (s places : List ℕ) (placement : Placement) → Holds s places placement → Placed s places
 holds-placed s places placement h = h .placed

@@ -12,10 +12,10 @@ use Rattle.records.specs.Base.{pick, all}
 use Rattle.records.specs.Room.{Room, nodeOf}
 use Rattle.records.specs.Plan.{Step}
 use Rattle.records.proofs.Laws.Bools.{and-left, and-right, and-both}
-use Rattle.rules.specs.Moments.{Placement, placeOf, after, within, Phase, idle, waiting, running, ended, cell, Moment, numberOf, countsOn, tallyAt, phaseOf, cellsFrom, firstMoment, rests, settled, leftAt, placesLeft}
-use Rattle.rules.specs.Orders.{begin, finish, Event, begins, ends, later, Order, done, next, Run, stop, step, fits, meetsMate, EachBegin, SomeBegin, EachMoment, EachBeginOfRun, EachMomentOfRun, MayBegin}
+use Rattle.rules.specs.Moments.{Placement, placeOf, after, within, Phase, idle, waiting, running, ended, cell, Moment, numberOf, countsOn, tallyAt, phaseOf, cellsFrom, firstMoment, atRest, rests, settled, leftAt, placesLeft}
+use Rattle.rules.specs.Orders.{begin, finish, Event, begins, ends, later, Order, done, next, Run, stop, step, fits, meetsMate, EachBegin, SomeBegin, EachMoment, EachChange, EachBeginOfRun, EachMomentOfRun, EachChangeOfRun, MayBegin}
 use Rattle.rules.specs.Rules.{from, allowed, named, permitted, fitting, unmet, soundStep}
-use Rattle.rules.specs.Promises.{afterAll, namedAll, soundAll, Obeys, SomeOrder, NeverOverfull}
+use Rattle.rules.specs.Promises.{afterAll, namedAll, soundAll, Obeys, SomeOrder, StaysWithin}
 use Rattle.rules.proofs.Laws.Sound.{sound-named, sound-permitted, sound-fitting, sound-unmet, sound-tests}
 use Rattle.rules.proofs.Laws.Orders.{never, load, memoryIn, cpuIn, memory-load, cpu-load, Under, under-self, both, under-load, Onward, none, same, runs, over, stops, onward-self, onward-order, begins-allowed, begins-fit, begins-apart, some-order, some-forbidden, some-misfit, some-mate, after-length, order-leaves}
 
@@ -250,6 +250,10 @@ left-from f d places (cell w p x ∷ cs) v (suc n) s e h =
     rw (counts-first d v (placeOf places v) [], counts-left d w p x (and-left (rests (cell w p x)) (all rests cs) s), here, head, load-is)
 
 -- so a step starts with the load that the one before it left
+first-rest : (f : ℕ → ℕ) (d : ℕ) (room : Room) (places : Placement) (moves : Step) → load f d (firstMoment room places moves) ≡ load f d (atRest room places)
+unfolding firstMoment
+first-rest f d room places moves = first-load f d places moves 0 (length (room .vms))
+
 pub left-load : (f : ℕ → ℕ) (d : ℕ) (room : Room) (places : Placement) (moves : Step) {end : Moment} → Order (firstMoment room places moves) end →
     settled end ≡ true → load f d (firstMoment room (placesLeft end) []) ≡ load f d end
 unfolding firstMoment placesLeft
@@ -262,13 +266,37 @@ left-load f d room places moves {end} o s =
 pub run-most : (f : ℕ → ℕ) (d most : ℕ) {room : Room} {places last : Placement} {steps : List Step} (run : Run room places steps last) →
     EachBeginOfRun (Room-for f d most) run → load f d (firstMoment room places []) ≤ most → EachMomentOfRun (λ cs. load f d cs ≤ most) run
 unfolding firstMoment
-run-most f d most stop b m = tt
+run-most f d most stop b m = m
 run-most f d most {room} {places} (step {moves = moves} {end = end} o s r) b m =
     let start : load f d (firstMoment room places moves) ≤ most = rw (first-load f d places moves 0 (length (room .vms))) m in
     let k = order-most f d most o (b .0) start in
     (k .0, run-most f d most r (b .1) (rw (left-load f d room places moves o s) (k .1)))
 
--- ---- no run of sound steps fills a node
+-- ---- the same from one moment to the next
+
+order-changes : (f : ℕ → ℕ) (d most : ℕ) {cs ds : Moment} (o : Order cs ds) → EachBegin (Room-for f d most) o →
+    EachChange (λ xs ys. load f d xs ≤ most → load f d ys ≤ most) o
+order-changes f d most done b = tt
+order-changes f d most (next {a = begin v to} e o) b = (λ m. event-most f d most e (b .0) m, order-changes f d most o (b .1))
+order-changes f d most (next {a = finish v} e o) b = (λ m. let k = under-load f (end-under d e) in omega arith, order-changes f d most o b)
+
+pub run-changes : (f : ℕ → ℕ) (d most : ℕ) {room : Room} {places last : Placement} {steps : List Step} (run : Run room places steps last) →
+    EachBeginOfRun (Room-for f d most) run → EachChangeOfRun (λ xs ys. load f d xs ≤ most → load f d ys ≤ most) run
+run-changes f d most stop b = tt
+run-changes f d most {room} (step {places = places} {moves = moves} {end = end} o s r) b =
+    (λ m. rw (first-rest f d room places moves) m, order-changes f d most o (b .0), λ m. rw (left-load f d room places moves o s) m, run-changes f d most r (b .1))
+
+each-change : (P Q : Moment → Moment → Type 0) → ((cs ds : Moment) → P cs ds → Q cs ds) → {cs ds : Moment} (o : Order cs ds) → EachChange P o → EachChange Q o
+each-change P Q h done p = tt
+each-change P Q h (next {cs = cs} {ds = ds} e o) p = (h cs ds (p .0), each-change P Q h o (p .1))
+
+each-change-run : (P Q : Moment → Moment → Type 0) → ((cs ds : Moment) → P cs ds → Q cs ds) → {room : Room} {places last : Placement} {steps : List Step}
+    (run : Run room places steps last) → EachChangeOfRun P run → EachChangeOfRun Q run
+each-change-run P Q h stop p = tt
+each-change-run P Q h {room} (step {places = places} {moves = moves} {end = end} o s r) p =
+    (h (atRest room places) (firstMoment room places moves) (p .0), each-change P Q h o (p .1), h end (atRest room (placesLeft end)) (p .2), each-change-run P Q h r (p .3))
+
+-- ---- no run of sound steps takes a node past what it has
 
 each-moment : (P Q : Moment → Type 0) → ((cs : Moment) → P cs → Q cs) → {cs ds : Moment} (o : Order cs ds) → EachMoment P o → EachMoment Q o
 each-moment P Q h (done {cs = cs}) p = h cs p
@@ -276,7 +304,7 @@ each-moment P Q h (next {cs = cs} e o) p = (h cs (p .0), each-moment P Q h o (p 
 
 each-moment-run : (P Q : Moment → Type 0) → ((cs : Moment) → P cs → Q cs) → {room : Room} {places last : Placement} {steps : List Step}
     (run : Run room places steps last) → EachMomentOfRun P run → EachMomentOfRun Q run
-each-moment-run P Q h stop p = tt
+each-moment-run P Q h {room} (stop {places = places}) p = h (atRest room places) p
 each-moment-run P Q h (step o s r) p = (each-moment P Q h o (p .0), each-moment-run P Q h r (p .1))
 
 -- what a VM that fits says of each number
@@ -305,9 +333,9 @@ module _ (room : Room) (cs : Moment) (v d : ℕ) (e : fits room cs v d ≡ true)
   room-cpu : (k : ℕ) → Room-for (cpuIn room) k (nodeOf room k .cpu) cs v d
   room-cpu k q = let m = fits-cpu in rw (← q) (omega (arith, cpu-load room d cs))
 
-pub never-overfull : (room : Room) (places : Placement) (steps : List Step) → soundAll room places steps ≡ true → length places ≡ length (room .vms) →
-    NeverOverfull room places steps
-never-overfull room places steps e l = record {
+pub stays-within : (room : Room) (places : Placement) (steps : List Step) → soundAll room places steps ≡ true → length places ≡ length (room .vms) →
+    StaysWithin room places steps
+stays-within room places steps e l = record {
   memory = λ last run d m.
       each-moment-run (λ cs. load (memoryIn room) d cs ≤ nodeOf room d .memory) (λ cs. tallyAt room d cs .memory ≤ nodeOf room d .memory)
       (λ cs h. omega (arith, memory-load room d cs)) run
@@ -321,5 +349,17 @@ never-overfull room places steps e l = record {
       (each-run (Obeys room) (Room-for (cpuIn room) d (nodeOf room d .cpu)) (λ cs v k p. room-cpu room cs v k (p .may .fit) d) run (run-obeys e l run))
       (omega (arith, cpu-load room d (firstMoment room places []))));
   arrivals = λ last run.
-      each-run (Obeys room) (λ cs v d. within (nodeOf room d) (tallyAt room d cs) ≡ true) (λ cs v d p. fits-within room cs v d (p .may .fit)) run (run-obeys e l run);
+      each-run (Obeys room) (λ cs v d. (fits room cs v d ≡ true) × (within (nodeOf room d) (tallyAt room d cs) ≡ true)) (λ cs v d p. (p .may .fit, fits-within room cs v d (p .may .fit))) run (run-obeys e l run);
+  memory-stays = λ last run d.
+      each-change-run (λ cs ds. load (memoryIn room) d cs ≤ nodeOf room d .memory → load (memoryIn room) d ds ≤ nodeOf room d .memory)
+      (λ cs ds. tallyAt room d cs .memory ≤ nodeOf room d .memory → tallyAt room d ds .memory ≤ nodeOf room d .memory)
+      (λ cs ds h m. rw (memory-load room d ds) (h (rw (memory-load room d cs) at m))) run
+      (run-changes (memoryIn room) d (nodeOf room d .memory) run
+      (each-run (Obeys room) (Room-for (memoryIn room) d (nodeOf room d .memory)) (λ cs v k p. room-memory room cs v k (p .may .fit) d) run (run-obeys e l run)));
+  cpu-stays = λ last run d.
+      each-change-run (λ cs ds. load (cpuIn room) d cs ≤ nodeOf room d .cpu → load (cpuIn room) d ds ≤ nodeOf room d .cpu)
+      (λ cs ds. tallyAt room d cs .cpu ≤ nodeOf room d .cpu → tallyAt room d ds .cpu ≤ nodeOf room d .cpu)
+      (λ cs ds h m. rw (cpu-load room d ds) (h (rw (cpu-load room d cs) at m))) run
+      (run-changes (cpuIn room) d (nodeOf room d .cpu) run
+      (each-run (Obeys room) (Room-for (cpuIn room) d (nodeOf room d .cpu)) (λ cs v k p. room-cpu room cs v k (p .may .fit) d) run (run-obeys e l run)));
 }

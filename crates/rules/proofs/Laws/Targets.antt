@@ -33,7 +33,7 @@ use Rattle.rules.specs.Rules.{from, fitsAll, spreadOut, keeps, targetChe
 use Rattle.rules.specs.Verdict.{home}
 use Rattle.rules.specs.Inner.{held, Placed, Holds, destsFrom, busyFrom, Ready, Loads, Low, Formed, Nodes, Grouping, stopped, goUnmet, fitsUpTo, homeFrom, clearOf, groupHolds, keepsIn}
 use Rattle.rules.specs.declared.faults.TargetFault.the-variants.{Overfull, Broken}
-use Rattle.rules.specs.declared.faults.TargetCheck.the-variants.{Reachable, Unreachable}
+use Rattle.rules.specs.declared.faults.TargetCheck.the-variants.{Good, Bad}
 use Rattle.rules.specs.declared.tally.Tally.{Tally}
 use Rattle.rules.proofs.Laws.Places.{target-at}
 use Rattle.rules.proofs.Laws.Fit.{named-ready, running-is, first-is, held-at}

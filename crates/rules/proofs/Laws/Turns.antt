@@ -91,7 +91,7 @@ module _ (s plan places : List ℕ) (at left number : ℕ) (w : Walking s plan p
 
   pub turn-faulty : (f : StepFault) → found ≡ StepCheck.Faulty f → Given (Verdict.Refused (Fault.Step f number)) (planVerdict (roomOf s) (stepsOf plan))
   unfolding onStep
-  turn-faulty f q = let c = w .count in record { is = simp q at turn; most = omega arith }
+  turn-faulty f q = let c = w .count in record { is = simp q at turn; most = omega arith; below = omega arith }
 
   module _ (q : found ≡ StepCheck.Sound) (next : List ℕ) (end : ℕ) (a : next ≡ after places (stepAt plan at)) (b : end ≡ stepEnd plan at) where
     name : named (roomOf s) (held s places) 0 (stepAt plan at) ≡ true
@@ -139,35 +139,35 @@ module _ (s plan places : List ℕ) (at left number : ℕ) (w : Walking s plan p
   unfolding stepsVerdict stepsFrom
   last = let n : left ≡ 0 = omega arith in rw e (rw n at (w .verdict))
 
-  pub end-home : (cost : ℕ) → cost ≡ costOf (roomOf s) (stepsOf plan) → ok ≡ true → Given (Verdict.Accepted cost) (planVerdict (roomOf s) (stepsOf plan))
-  end-home cost c o = record { is = ap Verdict.Accepted c ∙ (simp o at last); most = omega arith }
+  pub end-home : (cost : ℕ) → cost ≡ costOf (roomOf s) (stepsOf plan) → cost < 2 ^ 43 → ok ≡ true → Given (Verdict.Accepted cost) (planVerdict (roomOf s) (stepsOf plan))
+  end-home cost c b o = record { is = ap Verdict.Accepted c ∙ (simp o at last); most = omega arith; below = omega arith }
 
   pub end-away : ok ≡ false → Given (Verdict.Refused Fault.OffTarget) (planVerdict (roomOf s) (stepsOf plan))
-  end-away o = record { is = simp o at last; most = omega arith }
+  end-away o = record { is = simp o at last; most = omega arith; below = omega arith }
 
 -- ---- the checking order around them
 
 module _ (rest : Verdict) where
   pub plan-damaged : (found check : PlanCheck) (f : PlanFault) → found ≡ check → found ≡ PlanCheck.Damaged f → Given (Verdict.Refused (Fault.Plan f)) (onPlan check rest)
   unfolding onPlan
-  plan-damaged found check f e q = record { is = rw (sym e ∙ q); most = omega arith }
+  plan-damaged found check f e q = record { is = rw (sym e ∙ q); most = omega arith; below = omega arith }
 
   pub plan-fine : (found check : PlanCheck) (r : Verdict) → found ≡ check → Given r rest → found ≡ PlanCheck.Whole → Given r (onPlan check rest)
   unfolding onPlan
   plan-fine found check r e g q = rw (sym e ∙ q) g
 
-  pub target-fault : (found check : TargetCheck) (f : TargetFault) → found ≡ check → found ≡ TargetCheck.Unreachable f → Given (Verdict.Refused (Fault.Target f)) (onTarget check rest)
+  pub target-fault : (found check : TargetCheck) (f : TargetFault) → found ≡ check → found ≡ TargetCheck.Bad f → Given (Verdict.Refused (Fault.Target f)) (onTarget check rest)
   unfolding onTarget
-  target-fault found check f e q = record { is = rw (sym e ∙ q); most = omega arith }
+  target-fault found check f e q = record { is = rw (sym e ∙ q); most = omega arith; below = omega arith }
 
-  pub target-fine : (found check : TargetCheck) (r : Verdict) → found ≡ check → Given r rest → found ≡ TargetCheck.Reachable → Given r (onTarget check rest)
+  pub target-fine : (found check : TargetCheck) (r : Verdict) → found ≡ check → Given r rest → found ≡ TargetCheck.Good → Given r (onTarget check rest)
   unfolding onTarget
   target-fine found check r e g q = rw (sym e ∙ q) g
 
 module _ (cluster plan : List ℕ) (found : ClusterCheck) (e : found ≡ clusterCheck cluster) where
   pub cluster-damaged : (f : ClusterFault) → found ≡ ClusterCheck.Damaged f → Given (Verdict.Refused (Fault.Cluster f)) (verdictOf cluster plan)
   unfolding verdictOf onCluster
-  cluster-damaged f q = record { is = rw (sym e ∙ q); most = omega arith }
+  cluster-damaged f q = record { is = rw (sym e ∙ q); most = omega arith; below = omega arith }
 
   pub cluster-fine : (r : Verdict) → Given r (onTarget (targetCheck (roomOf cluster)) (onPlan (planCheck plan) (planVerdict (roomOf cluster) (stepsOf plan)))) → found ≡ ClusterCheck.Whole →
       Given r (verdictOf cluster plan)
@@ -190,4 +190,5 @@ pub pack-fits : (v : Verdict) (f : Fault) (number step : ℕ) → v ≡ Verdict.
 pack-fits v f number step e a b m = let k : faultStep f ≤ 512 = rw e at m in record { fits = omega arith }
 
 pub checked-packed : (cluster plan : List ℕ) (v : Verdict) (r : ℕ) → Given v (verdictOf cluster plan) → r ≡ packed v → Checked cluster plan r
-checked-packed cluster plan v r g e = checked-holds cluster plan r (e ∙ ap packed (g .is))
+checked-packed cluster plan v r g e =
+    checked-holds cluster plan r (e ∙ ap packed (g .is)) (λ cost a. let q : v ≡ Verdict.Accepted cost = g .is ∙ a in rw q at (g .below))

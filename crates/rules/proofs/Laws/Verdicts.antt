@@ -1,5 +1,5 @@
 -- Laws on the verdict: the promises of a check, over every order and every run.
-use Prim.Native.Nat.{ℕ, zero, suc, _+_, _<_}
+use Prim.Native.Nat.{ℕ, zero, suc, _+_, _<_, _^_}
 use mathlib.Core.Bool.{Bool, true, false, false≢true}
 use mathlib.Core.List.{List, [], _∷_}
 use mathlib.Core.Logic.{_↔_, Iff·trans}
@@ -16,7 +16,7 @@ use Rattle.rules.specs.Moments.{Placement, currentOf, after}
 use Rattle.rules.specs.Rules.{targetCheck, permitted, fitting, stepCheck, soundStep}
 use Rattle.rules.specs.Cost.{costOf}
 use Rattle.rules.specs.Verdict.{home, onCluster, onTarget, onPlan, onStep, stepsVerdict, planVerdict, verdictOf, packed}
-use Rattle.rules.specs.Promises.{afterAll, namedAll, soundAll, Shaped, EveryRun, MisfitAt, MateAt, NeverOverfull, Checked}
+use Rattle.rules.specs.Promises.{afterAll, namedAll, soundAll, Shaped, EveryRun, MisfitAt, MateAt, StaysWithin, Checked}
 use Rattle.rules.specs.declared.faults.TargetCheck.{TargetCheck}
 use Rattle.rules.specs.declared.faults.StepFault.{StepFault}
 use Rattle.rules.specs.declared.faults.StepCheck.{StepCheck}
@@ -24,7 +24,7 @@ use Rattle.rules.specs.declared.faults.Fault.{Fault}
 use Rattle.rules.specs.declared.faults.Verdict.{Verdict}
 use Rattle.rules.proofs.Laws.Orders.{never}
 use Rattle.rules.proofs.Laws.Sound.{sound-none, misfit-check, mate-check}
-use Rattle.rules.proofs.Laws.Runs.{misfit-exact, mate-exact, run-ends, some-run, run-obeys, runs-sound, never-overfull}
+use Rattle.rules.proofs.Laws.Runs.{sound-all-named, misfit-exact, mate-exact, run-ends, some-run, run-obeys, runs-sound, stays-within}
 
 -- ---- steps in turn
 
@@ -173,7 +173,7 @@ module _ (room : Room) (places : Placement) (steps : List Step) (n : ℕ) where
 -- with none of the faults 1 to 14 it is the verdict on the steps
 pub shaped-verdict : (cluster plan : List ℕ) → Shaped cluster plan → verdictOf cluster plan ≡ planVerdict (roomOf cluster) (stepsOf plan)
 unfolding verdictOf onCluster onTarget onPlan
-shaped-verdict cluster plan h = simp (h .cluster-whole, h .target-reachable, h .plan-whole)
+shaped-verdict cluster plan h = simp (h .cluster-whole, h .target-good, h .plan-whole)
 
 -- an accepted plan has none of them
 on-cluster : (c : ClusterCheck) (rest : Verdict) (cost : ℕ) → onCluster c rest ≡ Verdict.Accepted cost → rest ≡ Verdict.Accepted cost
@@ -183,13 +183,28 @@ on-cluster (ClusterCheck.Damaged fault) rest cost e = never (cc)
 
 on-target : (c : TargetCheck) (rest : Verdict) (cost : ℕ) → onTarget c rest ≡ Verdict.Accepted cost → rest ≡ Verdict.Accepted cost
 unfolding onTarget
-on-target TargetCheck.Reachable rest cost e = e
-on-target (TargetCheck.Unreachable fault) rest cost e = never (cc)
+on-target TargetCheck.Good rest cost e = e
+on-target (TargetCheck.Bad fault) rest cost e = never (cc)
 
 on-plan : (c : PlanCheck) (rest : Verdict) (cost : ℕ) → onPlan c rest ≡ Verdict.Accepted cost → rest ≡ Verdict.Accepted cost
 unfolding onPlan
 on-plan PlanCheck.Whole rest cost e = e
 on-plan (PlanCheck.Damaged fault) rest cost e = never (cc)
+
+is-whole : (c : ClusterCheck) (rest : Verdict) (cost : ℕ) → onCluster c rest ≡ Verdict.Accepted cost → c ≡ ClusterCheck.Whole
+unfolding onCluster
+is-whole ClusterCheck.Whole rest cost e = refl
+is-whole (ClusterCheck.Damaged fault) rest cost e = never (cc)
+
+is-good : (c : TargetCheck) (rest : Verdict) (cost : ℕ) → onTarget c rest ≡ Verdict.Accepted cost → c ≡ TargetCheck.Good
+unfolding onTarget
+is-good TargetCheck.Good rest cost e = refl
+is-good (TargetCheck.Bad fault) rest cost e = never (cc)
+
+is-shaped : (c : PlanCheck) (rest : Verdict) (cost : ℕ) → onPlan c rest ≡ Verdict.Accepted cost → c ≡ PlanCheck.Whole
+unfolding onPlan
+is-shaped PlanCheck.Whole rest cost e = refl
+is-shaped (PlanCheck.Damaged fault) rest cost e = never (cc)
 
 pub current-length : (room : Room) → length (currentOf room) ≡ length (room .vms)
 unfolding currentOf
@@ -269,10 +284,21 @@ module _ (cluster plan : List ℕ) where
   cost-holds cost e = accepted-steps cost e .cost-is
 
   pub auditor-holds : (cost : ℕ) → verdictOf cluster plan ≡ Verdict.Accepted cost →
-      NeverOverfull (roomOf cluster) (currentOf (roomOf cluster)) (stepsOf plan)
+      StaysWithin (roomOf cluster) (currentOf (roomOf cluster)) (stepsOf plan)
   auditor-holds cost e =
-      never-overfull (roomOf cluster) (currentOf (roomOf cluster)) (stepsOf plan) (accepted-steps cost e .sound) (current-length (roomOf cluster))
+      stays-within (roomOf cluster) (currentOf (roomOf cluster)) (stepsOf plan) (accepted-steps cost e .sound) (current-length (roomOf cluster))
 
-  -- all of them
-  pub checked-holds : (r : ℕ) → r ≡ packed (verdictOf cluster plan) → Checked cluster plan r
-  checked-holds r e = record { is = e; exact = exact-holds; misfit = misfit-holds; mate = mate-holds; cost = cost-holds; auditor = auditor-holds }
+  pub only-holds : (cost : ℕ) → verdictOf cluster plan ≡ Verdict.Accepted cost →
+      Shaped cluster plan × (namedAll (roomOf cluster) (currentOf (roomOf cluster)) (stepsOf plan) ≡ true)
+  unfolding verdictOf
+  only-holds cost e =
+      let c = on-cluster (clusterCheck cluster) _ cost e in
+      let t = on-target (targetCheck (roomOf cluster)) _ cost c in (
+        record { cluster-whole = is-whole (clusterCheck cluster) _ cost e; target-good = is-good (targetCheck (roomOf cluster)) _ cost c; plan-whole = is-shaped (planCheck plan) _ cost t },
+        sound-all-named (roomOf cluster) (currentOf (roomOf cluster)) (stepsOf plan) (accepted-steps cost e .sound),
+      )
+
+  -- all of them; that a cost is small is the code's to say, since only it knows that the records hold bytes
+  pub checked-holds : (r : ℕ) → r ≡ packed (verdictOf cluster plan) → ((cost : ℕ) → verdictOf cluster plan ≡ Verdict.Accepted cost → cost < 2 ^ 43) → Checked cluster plan r
+  checked-holds r e b =
+      record { is = e; exact = exact-holds; only = only-holds; misfit = misfit-holds; mate = mate-holds; cost = cost-holds; below = b; auditor = auditor-holds }

@@ -1,4 +1,4 @@
-//! Measures the library's `check` beside the baseline on the inputs of `inputs`, after comparing
+//! Measures the library's `check` beside the model and the baseline on the inputs of `inputs`, after comparing
 //! library, baseline and model on each. Buffers are not cleared between calls, so caches are warm.
 
 use kobdrieft_harness::inputs::{all, Input};
@@ -10,7 +10,7 @@ use std::hint::black_box;
 use std::process::exit;
 use std::time::{Duration, Instant};
 
-/// Rounds for each input. The two sides take turns.
+/// Rounds for each input. The sides take turns.
 const ROUNDS: usize = 21;
 
 /// How long one side's round is to take.
@@ -92,33 +92,42 @@ fn expect(good: bool, name: &str, what: &str) {
 // ---------------------------------------------------------------- then speed
 
 fn print_table(inputs: &[Input]) {
-    println!("| input | record bytes | plan bytes | library µs | baseline µs | ratio |");
-    println!("|---|--:|--:|--:|--:|--:|");
-    let mut largest = (0.0, "");
+    println!("| input | record bytes | plan bytes | library µs | model µs | ratio | baseline µs | ratio |");
+    println!("|---|--:|--:|--:|--:|--:|--:|--:|");
+    let mut largest = [(0.0, ""); 2];
     for input in inputs {
-        let (library, simple) = measure(input);
-        let ratio = library / simple;
+        let [library, plain, simple] = measure(input);
+        let ratios = [library / plain, library / simple];
         let (record, plan) = (input.cluster.len(), input.plan.len());
-        let times = format!("{:.2} | {:.2} | {ratio:.2}", library / 1e3, simple / 1e3);
-        println!("| {} | {record} | {plan} | {times} |", input.name);
-        if ratio > largest.0 {
-            largest = (ratio, input.name);
+        let (library, plain, simple) = (library / 1e3, plain / 1e3, simple / 1e3);
+        println!(
+            "| {} | {record} | {plan} | {library:.2} | {plain:.2} | {:.2} | {simple:.2} | {:.2} |",
+            input.name, ratios[0], ratios[1]
+        );
+        for (most, ratio) in largest.iter_mut().zip(ratios) {
+            if ratio > most.0 {
+                *most = (ratio, input.name);
+            }
         }
     }
-    println!("\nlargest ratio {:.2} ({})", largest.0, largest.1);
+    println!("\nlargest ratio to the baseline {:.2} ({})", largest[1].0, largest[1].1);
+    println!("largest ratio to the model {:.2} ({})", largest[0].0, largest[0].1);
 }
 
-/// Median nanoseconds a call: the library, the baseline.
-fn measure(input: &Input) -> (f64, f64) {
-    let library = || check(black_box(&input.cluster), black_box(&input.plan));
-    let simple = || baseline::check(black_box(&input.cluster), black_box(&input.plan));
-    let (library_calls, simple_calls) = (calls_a_round(library), calls_a_round(simple));
-    let mut times = (Vec::new(), Vec::new());
+/// Median nanoseconds a call: the library, the model, the baseline. They take turns.
+fn measure(input: &Input) -> [f64; 3] {
+    let (cluster, plan) = (&input.cluster[..], &input.plan[..]);
+    let library = || check(black_box(cluster), black_box(plan));
+    let plain = || model::pack_verdict(model::check(black_box(cluster), black_box(plan)));
+    let simple = || baseline::check(black_box(cluster), black_box(plan));
+    let calls = [calls_a_round(library), calls_a_round(plain), calls_a_round(simple)];
+    let mut times = [Vec::new(), Vec::new(), Vec::new()];
     for _ in 0..ROUNDS {
-        times.0.push(round(library, library_calls));
-        times.1.push(round(simple, simple_calls));
+        times[0].push(round(library, calls[0]));
+        times[1].push(round(plain, calls[1]));
+        times[2].push(round(simple, calls[2]));
     }
-    (median(times.0), median(times.1))
+    times.map(median)
 }
 
 /// How many calls fill a round; this also warms up.

@@ -15,7 +15,7 @@ use Rattle.records.proofs.move_vm.Reads as move-vm-reads
 use Rattle.rules.proofs.cost.memory_of.Reads as memory-of-reads
 
 abbrev Inv-loop : tie.InvT-loop
-Inv-loop cluster plan at before i₀ sum₀ i sum = (i ≤ moveCount plan at) × (sum + i * 2 ^ 34 ≤ moveCount plan at * 2 ^ 34) × (sum ≡ movesCost (roomOf cluster) before (drop i (stepAt plan at)))
+Inv-loop cluster plan at before i₀ sum₀ i sum = (i ≤ moveCount plan at) × (sum + i * 8589934080 ≤ moveCount plan at * 8589934080) × (sum ≡ movesCost (roomOf cluster) before (drop i (stepAt plan at)))
 
 abbrev μ-loop : tie.MeasureT-loop
 μ-loop cluster plan at before i₀ sum₀ i sum = i

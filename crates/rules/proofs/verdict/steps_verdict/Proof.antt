@@ -1,6 +1,6 @@
 use borrow.Author.Needs.{needs}
 use Rattle.rules.specs.Inner.{Walking}
-use Rattle.rules.proofs.Laws.Turns.{walking-start, walking-fits, walking-placed, turn-faulty, turn-sound, end-home, end-away}
+use Rattle.rules.proofs.Laws.Turns.{walking-start, walking-fits, turn-faulty, turn-sound, end-home, end-away}
 use Rattle.rules.proofs.verdict.steps_verdict.Statement.{statement}
 use Rattle.rules.proofs.verdict.steps_verdict.Tie as tie
 use Rattle.rules.proofs.verdict.steps_verdict.Reads as reads
@@ -33,7 +33,7 @@ loop-holds c = search (needs, walking-start)
 
 -- src/verdict.rt:37:13
 step-check-requires : tie.Need-step-check-requires Inv-loop μ-loop
-step-check-requires c κs = search (needs, walking-fits, walking-placed)
+step-check-requires c κs = search (needs, walking-fits)
 
 -- src/verdict.rt:38:34
 enum-known-found : tie.Need-enum-known-found Inv-loop μ-loop
