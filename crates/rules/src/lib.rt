@@ -6,8 +6,8 @@ mod places;
 mod spread;
 mod step;
 mod tally;
-mod target;
 mod verdict;
+mod wanted;
 
 ghost use Rattle.rules.specs.Promises.{Checked};
 
@@ -33,8 +33,8 @@ pub use allow::allow_table;
 pub use places::current_places;
 pub use places::node_at;
 pub use places::target_places;
-pub use target::at_home;
-pub use target::target_check;
+pub use wanted::at_home;
+pub use wanted::target_check;
 
 // The verdict on a plan for a cluster, on any two byte strings: an accepted plan's cost, or a refusal with bit 63 set, its number
 // from bit 16 on and its step below that. `Checked` lists what is promised of it.

@@ -11,7 +11,7 @@ use Rattle.rules.proofs.cost.plan_cost.Reads as plan-cost-reads
 use Rattle.rules.proofs.places.current_places.Reads as current-places-reads
 use Rattle.rules.proofs.places.moved.Reads as moved-reads
 use Rattle.rules.proofs.step.step_check.Reads as step-check-reads
-use Rattle.rules.proofs.target.at_home.Reads as at-home-reads
+use Rattle.rules.proofs.wanted.at_home.Reads as at-home-reads
 
 abbrev Inv-loop : tie.InvT-loop
 Inv-loop cluster plan table places₀ at₀ left₀ number₀ places at left number = Walking cluster plan places at left number

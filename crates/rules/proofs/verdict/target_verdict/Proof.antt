@@ -4,7 +4,7 @@ use Rattle.rules.proofs.verdict.target_verdict.Statement.{statement}
 use Rattle.rules.proofs.verdict.target_verdict.Tie as tie
 use Rattle.rules.proofs.verdict.target_verdict.Reads as reads
 use Rattle.rules.proofs.verdict.target_verdict.Lts as lts
-use Rattle.rules.proofs.target.target_check.Reads as target-check-reads
+use Rattle.rules.proofs.wanted.target_check.Reads as target-check-reads
 use Rattle.rules.proofs.verdict.plan_verdict.Reads as plan-verdict-reads
 
 -- src/verdict.rt:73:9

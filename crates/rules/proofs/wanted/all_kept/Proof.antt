@@ -1,0 +1,89 @@
+use borrow.Author.Needs.{needs}
+use Prim.Native.Nat.{_≤_, _-_}
+use mathlib.Core.Path.{_≡_}
+use borrow.Author.Tests.{not-true, not-false}
+use mathlib.Core.List.{map}
+use Rattle.records.specs.Base.{all}
+use Rattle.records.specs.Room.{partsFrom, constraintOf, roomOf}
+use Rattle.records.specs.Inner.{Parts}
+use Rattle.records.proofs.Laws.Parts.{parts-add}
+use Rattle.records.proofs.Laws.Walk.{walk-within, walk-next}
+use Rattle.rules.specs.Inner.{keepsIn}
+use Rattle.rules.proofs.Laws.Allow.{walk-from}
+use Rattle.rules.proofs.Laws.Kept.{walk-formed, kept-start, kept-not, kept-more, kept-done}
+use Rattle.rules.proofs.wanted.all_kept.Statement.{statement}
+use Rattle.rules.proofs.wanted.all_kept.Tie as tie
+use Rattle.rules.proofs.wanted.all_kept.Reads as reads
+use Rattle.rules.proofs.wanted.all_kept.Lts as lts
+use Rattle.records.proofs.constraint_count.Reads as constraint-count-reads
+use Rattle.records.proofs.first_constraint.Reads as first-constraint-reads
+use Rattle.records.proofs.part.Reads as part-reads
+use Rattle.rules.proofs.wanted.part_kept.Reads as part-kept-reads
+
+abbrev Inv-loop : tie.InvT-loop
+Inv-loop cluster places at₀ left₀ at left = Parts cluster at left × (all (keepsIn places) (map constraintOf (partsFrom cluster at left)) ≡ all (keepsIn places) (roomOf cluster .constraints))
+
+abbrev μ-loop : tie.MeasureT-loop
+μ-loop cluster places at₀ left₀ at left = left
+
+-- src/wanted.rt:118:9
+first-constraint-requires : tie.Need-first-constraint-requires Inv-loop μ-loop
+first-constraint-requires c κs = search needs
+
+-- src/wanted.rt:119:9
+constraint-count-requires : tie.Need-constraint-count-requires Inv-loop μ-loop
+constraint-count-requires c κs = search needs
+
+-- src/wanted.rt:120:5
+loop-holds : tie.Need-loop-holds Inv-loop μ-loop
+loop-holds c = search (needs, walk-from, kept-start)
+
+-- src/wanted.rt:121:13
+part-requires : tie.Need-part-requires Inv-loop μ-loop
+part-requires c κs = search (needs, walk-within)
+
+-- src/wanted.rt:122:13
+part-kept-requires : tie.Need-part-kept-requires Inv-loop μ-loop
+part-kept-requires c κs = search (needs, walk-formed)
+
+-- src/wanted.rt:123:13
+returns : tie.Need-returns Inv-loop μ-loop
+returns c = search (needs, kept-not, not-true)
+
+-- src/wanted.rt:125:9
+add-at : tie.Need-add-at Inv-loop μ-loop
+add-at c = search (needs, parts-add)
+
+-- src/wanted.rt:126:9
+sub-left : tie.Need-sub-left Inv-loop μ-loop
+sub-left c = search needs
+
+-- src/wanted.rt:120:5
+loop-less : tie.Need-loop-less Inv-loop μ-loop
+loop-less c = search needs
+
+-- src/wanted.rt:120:5
+loop-again : tie.Need-loop-again Inv-loop μ-loop
+loop-again c = search (needs, walk-next, kept-more, not-false)
+
+-- src/wanted.rt:114:1
+returns-2 : tie.Need-returns-2 Inv-loop μ-loop
+returns-2 c = search (needs, kept-done)
+
+pub all-kept-spec : {M : Type 1} → statement M
+all-kept-spec =
+    tie.close
+    (tie.spec
+    Inv-loop
+    μ-loop
+    first-constraint-requires
+    constraint-count-requires
+    loop-holds
+    part-requires
+    part-kept-requires
+    returns
+    add-at
+    sub-left
+    loop-less
+    loop-again
+    returns-2)
