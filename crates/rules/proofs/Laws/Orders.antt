@@ -23,6 +23,9 @@ use Rattle.rules.specs.Promises.{SomeOrder}
 pub never : {A : Type 0} → _≡_ {A = ℕ} 0 1 → A
 never e = absurd (omega arith)
 
+or-first : {a : Bool} (b : Bool) → a ≡ true → (a || b) ≡ true
+or-first b e = rw e
+
 or-second : (a : Bool) {b : Bool} → b ≡ true → (a || b) ≡ true
 or-second a e = rw e (or-true a)
 
@@ -145,6 +148,52 @@ pub data Onward : Moment → Moment → Type 0 where
   over : {v p d : ℕ} {ws cs : Moment} → Onward ws cs → Onward (cell v p (waiting d) ∷ ws) (cell v p (ended d) ∷ cs)
   stops : {v p d : ℕ} {ws cs : Moment} → Onward ws cs → Onward (cell v p (running d) ∷ ws) (cell v p (ended d) ∷ cs)
 
+-- every moment onward is under the one with every move running
+pub under-busy : {ws cs : Moment} (d : ℕ) → Onward ws cs → Under d cs (allRunning ws)
+unfolding allRunning begun countsOn
+under-busy d none = empty
+under-busy d (same {c = cell v p x} o) = both (counts x) (under-busy d o)
+  where
+    counts : (x : Phase) → countsOn d (cell v p x) ≡ true → countsOn d (cell v p (begun x)) ≡ true
+    counts idle e = e
+    counts (waiting to) e = or-first (eqb to d) e
+    counts (running to) e = e
+    counts (ended to) e = e
+under-busy d (runs o) = both (λ e. e) (under-busy d o)
+under-busy d (over {p = p} {d = to} o) = both (or-second (eqb p d)) (under-busy d o)
+under-busy d (stops {p = p} {d = to} o) = both (or-second (eqb p d)) (under-busy d o)
+
+-- ---- orders put together
+
+pub joined : {cs ds es : Moment} → Order cs ds → Order ds es → Order cs es
+joined done p = p
+joined (next e o) p = next e (joined o p)
+
+pub behind : (c : Cell) {cs ds : Moment} → Order cs ds → Order (c ∷ cs) (c ∷ ds)
+behind c done = done
+behind c (next e o) = next (later e) (behind c o)
+
+pub some-joined : (P : Moment → ℕ → ℕ → Type 0) {cs ds es : Moment} (o : Order cs ds) (p : Order ds es) → SomeBegin P p → SomeBegin P (joined o p)
+unfolding joined
+some-joined P done p s = s
+some-joined P (next {a = begin v d} e o) p s = inr (some-joined P o p s)
+some-joined P (next {a = finish v} e o) p s = some-joined P o p s
+
+-- every move begins
+run-cell : {cs : Moment} (v p : ℕ) (x : Phase) → Order (cell v p x ∷ cs) (cell v p (begun x) ∷ cs)
+unfolding begun
+run-cell v p idle = done
+run-cell v p (waiting d) = next begins done
+run-cell v p (running d) = done
+run-cell v p (ended d) = done
+
+pub run-all : (ws : Moment) → Order ws (allRunning ws)
+unfolding allRunning
+run-all [] = done
+run-all (cell v p x ∷ ws) = joined (run-cell v p x) (behind (cell v p (begun x)) (run-all ws))
+
+-- ---- events lead onward
+
 pub onward-self : (ws : Moment) → Onward ws ws
 onward-self [] = none
 onward-self (c ∷ ws) = same (onward-self ws)
@@ -161,21 +210,6 @@ onward-event (stops o) (later e) = stops (onward-event o e)
 pub onward-order : {ws cs ds : Moment} → Onward ws cs → Order cs ds → Onward ws ds
 onward-order w done = w
 onward-order w (next e o) = onward-order (onward-event w e) o
-
--- every moment onward is under the one with every move running
-pub under-busy : {ws cs : Moment} (d : ℕ) → Onward ws cs → Under d cs (allRunning ws)
-unfolding allRunning begun countsOn
-under-busy d none = empty
-under-busy d (same {c = cell v p x} o) = both (counts x) (under-busy d o)
-  where
-    counts : (x : Phase) → countsOn d (cell v p x) ≡ true → countsOn d (cell v p (begun x)) ≡ true
-    counts idle e = e
-    counts (waiting to) e = rw e
-    counts (running to) e = e
-    counts (ended to) e = e
-under-busy d (runs o) = both (λ e. e) (under-busy d o)
-under-busy d (over {p = p} {d = to} o) = both (or-second (eqb p d)) (under-busy d o)
-under-busy d (stops {p = p} {d = to} o) = both (or-second (eqb p d)) (under-busy d o)
 
 -- ---- moves that go elsewhere
 
@@ -382,34 +416,7 @@ module _ (room : Room) (places : Placement) (step : Step) where
           go false t = refl
           go true t = sym (meets-under room v (under-busy d w) t) ∙ busy
 
--- ---- orders put together
-
-pub joined : {cs ds es : Moment} → Order cs ds → Order ds es → Order cs es
-joined done p = p
-joined (next e o) p = next e (joined o p)
-
-pub behind : (c : Cell) {cs ds : Moment} → Order cs ds → Order (c ∷ cs) (c ∷ ds)
-behind c done = done
-behind c (next e o) = next (later e) (behind c o)
-
-pub some-joined : (P : Moment → ℕ → ℕ → Type 0) {cs ds es : Moment} (o : Order cs ds) (p : Order ds es) → SomeBegin P p → SomeBegin P (joined o p)
-unfolding joined
-some-joined P done p s = s
-some-joined P (next {a = begin v d} e o) p s = inr (some-joined P o p s)
-some-joined P (next {a = finish v} e o) p s = some-joined P o p s
-
--- every move begins
-run-cell : {cs : Moment} (v p : ℕ) (x : Phase) → Order (cell v p x ∷ cs) (cell v p (begun x) ∷ cs)
-unfolding begun
-run-cell v p idle = done
-run-cell v p (waiting d) = next begins done
-run-cell v p (running d) = done
-run-cell v p (ended d) = done
-
-pub run-all : (ws : Moment) → Order ws (allRunning ws)
-unfolding allRunning
-run-all [] = done
-run-all (cell v p x ∷ ws) = joined (run-cell v p x) (behind (cell v p (begun x)) (run-all ws))
+-- ---- all moves over
 
 -- every move over
 unfoldable pub overAt : Phase → Phase
