@@ -222,7 +222,7 @@ fn constraints(rng: &mut Rng, room: &Room, size: Size) -> Vec<Constraint> {
         .collect()
 }
 
-fn some_vms(rng: &mut Rng, room: &Room) -> Vec<usize> {
+pub(crate) fn some_vms(rng: &mut Rng, room: &Room) -> Vec<usize> {
     let all: Vec<usize> = (0..room.vms.len()).collect();
     rng.some_of(&all)
 }
@@ -232,13 +232,13 @@ fn targets_and_others(room: &Room, vms: &[usize]) -> (Vec<usize>, Vec<usize>) {
     (0..room.nodes.len()).partition(|&node| vms.iter().any(|&vm| room.vms[vm].target == node))
 }
 
-fn ban(rng: &mut Rng, room: &Room) -> Constraint {
+pub(crate) fn ban(rng: &mut Rng, room: &Room) -> Constraint {
     let vms = some_vms(rng, room);
     let (_, others) = targets_and_others(room, &vms);
     Constraint::Ban { vms, nodes: rng.some_of(&others) }
 }
 
-fn fence(rng: &mut Rng, room: &Room) -> Constraint {
+pub(crate) fn fence(rng: &mut Rng, room: &Room) -> Constraint {
     let vms = some_vms(rng, room);
     let (mut nodes, others) = targets_and_others(room, &vms);
     nodes.extend(rng.some_of(&others));
@@ -252,7 +252,7 @@ fn spread(rng: &mut Rng, room: &Room) -> Constraint {
 }
 
 /// A spread over as many of these VMs as have targets apart.
-fn spread_among(rng: &mut Rng, room: &Room, mut candidates: Vec<usize>) -> Constraint {
+pub(crate) fn spread_among(rng: &mut Rng, room: &Room, mut candidates: Vec<usize>) -> Constraint {
     rng.shuffle(&mut candidates);
     let mut used = vec![false; room.nodes.len()];
     candidates.retain(|&vm| !std::mem::replace(&mut used[room.vms[vm].target], true));
@@ -261,7 +261,7 @@ fn spread_among(rng: &mut Rng, room: &Room, mut candidates: Vec<usize>) -> Const
     Constraint::Spread { vms: candidates }
 }
 
-fn latency(rng: &mut Rng, room: &Room) -> Constraint {
+pub(crate) fn latency(rng: &mut Rng, room: &Room) -> Constraint {
     let how_many = rng.pick(&[0, 1, 2, 3, 5, 64]);
     let mut groups = vec![Vec::new(); how_many];
     let percent = rng.pick(&[50, 90, 100]);

@@ -8,8 +8,10 @@ pub mod gen;
 pub mod orders;
 pub mod pack;
 pub mod planner;
+pub mod puzzles;
 pub mod records;
 pub mod rules;
+pub mod text;
 
 pub use pack::{pack_answer, pack_verdict};
 pub use planner::{build, Answer};

@@ -155,3 +155,12 @@ fn packed_numbers() {
     let most = Answer::Blocked { steps: 511, moves: 511, cost: (1 << 44) - 1 };
     assert_eq!(pack_answer(most), (1 << 63) - 1);
 }
+
+#[test]
+fn a_printed() {
+    let lines = "plan steps 3 moves 3 cost 16\n1 0 0 2\n2 1 1 0\n3 0 2 1\n";
+    assert_eq!(text::plan_text(&a_bytes()), lines);
+    assert_eq!(text::plan_text(&[]), "refused 1 step 0\n");
+    let blocked = cluster_bytes(&with_memories([4, 4, 1]));
+    assert_eq!(text::plan_text(&blocked), "blocked steps 0 moves 0 cost 0\n");
+}

@@ -2,8 +2,9 @@
 //! the brute force over orders.
 
 use kobdrieft_model::gen::{apart, knot, ring, room, swaps, Rng, Size};
-use kobdrieft_model::orders::{explore, Found};
+use kobdrieft_model::orders::{every_order, explore, follow, Found};
 use kobdrieft_model::planner::make_steps;
+use kobdrieft_model::puzzles::puzzle;
 use kobdrieft_model::rules::may_go;
 use kobdrieft_model::*;
 
@@ -110,6 +111,17 @@ fn clusters_that_spread() {
     }
 }
 
+/// The puzzles have one size.
+fn any_puzzle(rng: &mut Rng, _: Size) -> Room {
+    puzzle(rng)
+}
+
+#[test]
+fn puzzles() {
+    let seen = hold_many(18, any_puzzle, Size::Small, 20_000);
+    assert!(seen.pivoted > 1_000 && seen.blocked > 1_000 && seen.blocked_late > 100, "{seen:?}");
+}
+
 #[test]
 fn medium_clusters() {
     let seen = hold_many(11, room, Size::Medium, 2_000);
@@ -193,13 +205,37 @@ fn useful(room: &Room, place: &[usize], m: Move) -> bool {
         && away(room, &then).iter().any(|&o| o != m.vm && sound(room, &then, &[home(room, o)]))
 }
 
+/// The longest step whose orders are listed one by one: 2,520 of them.
+const LISTED: usize = 4;
+
+#[test]
+fn no_order_of_a_built_step_meets_a_fault() {
+    let mut rng = Rng::new(17);
+    let orders: Vec<_> = (0..=LISTED).map(every_order).collect();
+    let mut wide = 0;
+    for i in 0..3_000 {
+        let make: Make = [any_puzzle, room, apart][i % 3];
+        let room = make(&mut rng, Size::Tiny);
+        let mut place: Vec<usize> = room.vms.iter().map(|vm| vm.current).collect();
+        for step in make_steps(&room).0 {
+            assert!(step.iter().all(|m| may_go(&room, m.vm, m.to)), "{room:?}");
+            for order in orders.get(step.len()).into_iter().flatten() {
+                assert_eq!(follow(&room, &place, &step, order), Found::default(), "{room:?}");
+            }
+            wide += usize::from((2..=LISTED).contains(&step.len()));
+            place = moved(&place, &step);
+        }
+    }
+    assert!(wide > 500, "{wide}");
+}
+
 #[test]
 fn the_planner_agrees_with_one_built_on_orders() {
     let mut rng = Rng::new(14);
     let mut steps_seen = 0;
     for i in 0..10_000 {
-        let size = if i % 4 == 0 { Size::Small } else { Size::Tiny };
-        let make: Make = [room, knot, apart][i % 3];
+        let size = if i % 5 == 0 { Size::Small } else { Size::Tiny };
+        let make: Make = [room, knot, apart, any_puzzle][i % 4];
         let room = make(&mut rng, size);
         if away(&room, &room.vms.iter().map(|vm| vm.current).collect::<Vec<_>>()).len() > 5 {
             continue;

@@ -1,4 +1,6 @@
-// Records at the edge of each refusal, with the number that the library gives each (0 is none), and verdicts on whole plans.
+// Records at the edge of each refusal, with the number that the library gives each (0 is none), verdicts on whole plans, and the
+// planner's answers.
+mod answers;
 mod build;
 mod clusters;
 mod plans;
@@ -26,4 +28,6 @@ fn main() {
     verdicts::mates();
     verdicts::target();
     verdicts::target_2();
+    answers::buffers();
+    answers::counts(&mut b);
 }

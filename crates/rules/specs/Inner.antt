@@ -75,7 +75,10 @@ pub record Loaded (s places dests : List ℕ) (v : ℕ) (sums : List Tally) : Ty
 
 -- the sums over all VMs
 pub record Loads (s places dests : List ℕ) (sums : List Tally) : Type 0 where
+  pub size : length sums ≡ 65
   pub each : (d : ℕ) → d < 64 → getD sums d emptyTally ≡ tallyAt (roomOf s) d (busyFrom places dests 0 (vmCount s))
+  pub memory-most : (d : ℕ) → getD sums d emptyTally .memory ≤ vmCount s * 16777216
+  pub cpu-most : (d : ℕ) → getD sums d emptyTally .cpu ≤ vmCount s * 65536
 
 -- each VM and each destination of a step is there
 pub record Aimed (s : List ℕ) (step : Step) : Type 0 where

@@ -41,7 +41,7 @@ pub enum Verdict {
     Refused(Fault),
 }
 
-fn target_number(f: TargetFault) -> u64
+pub fn target_number(f: TargetFault) -> u64
     ensures { λ r. ⌜ (r ≡ targetNumber f) × (r < 256) ⌝ }
 {
     match f {

@@ -20,9 +20,14 @@ pub use faults::TargetFault;
 pub use faults::Verdict;
 pub use faults::fault_number;
 pub use faults::fault_step;
+pub use faults::target_number;
 pub use verdict::verdict_on;
 
+// What a plan costs.
+pub use cost::plan_cost;
+
 // A node's tally.
+pub use step::loads;
 pub use tally::Need;
 pub use tally::Tally;
 pub use tally::need_of;
@@ -31,6 +36,7 @@ pub use tally::within_node;
 // Placements, destinations and the target.
 pub use allow::allow_table;
 pub use places::current_places;
+pub use places::entry;
 pub use places::node_at;
 pub use places::target_places;
 pub use wanted::at_home;

@@ -18,9 +18,9 @@ pub struct Input {
     pub outcome: Option<(u8, u16)>,
 }
 
-const NODES: usize = 64;
-const VMS: usize = 256;
-const CONSTRAINTS: usize = 128;
+pub(crate) const NODES: usize = 64;
+pub(crate) const VMS: usize = 256;
+pub(crate) const CONSTRAINTS: usize = 128;
 const LAST: u16 = 512;
 
 /// All inputs, the small room last.
@@ -101,7 +101,7 @@ fn hopping(nodes: usize, constraints: Vec<Constraint>) -> (Room, Vec<Step>) {
 }
 
 /// 256 VMs with current and target node as given, on the first `used` of 64 nodes.
-fn full_room(
+pub(crate) fn full_room(
     used: usize,
     places: impl Fn(usize) -> (usize, usize),
     constraints: Vec<Constraint>,
@@ -120,7 +120,7 @@ fn all_vms() -> Vec<usize> {
 }
 
 /// Latencies of the largest size: all VMs, 63 empty groups, then one with all nodes.
-fn latencies(how_many: usize) -> Vec<Constraint> {
+pub(crate) fn latencies(how_many: usize) -> Vec<Constraint> {
     let mut groups = vec![vec![]; 63];
     groups.push((0..NODES).collect());
     vec![Constraint::Latency { vms: all_vms(), groups }; how_many]
@@ -129,7 +129,7 @@ fn latencies(how_many: usize) -> Vec<Constraint> {
 // ---------------------------------------------------------------- spreads
 
 /// The nodes that have homes on them where VMs go away and back; two are left to go to.
-const HOMES: usize = NODES - 2;
+pub(crate) const HOMES: usize = NODES - 2;
 
 /// 128 spreads of 62 VMs, one from each home; 512 steps of 2 moves, away and back.
 pub fn spreads() -> Input {
@@ -155,7 +155,7 @@ fn away_and_back(constraints: Vec<Constraint>) -> (Room, Vec<Step>) {
     (room, (0..256).flat_map(both).collect())
 }
 
-fn spread_lists(how_many: usize, apart: usize) -> Vec<Constraint> {
+pub(crate) fn spread_lists(how_many: usize, apart: usize) -> Vec<Constraint> {
     (0..how_many).map(|k| Constraint::Spread { vms: one_of_each(k, apart) }).collect()
 }
 

@@ -4,9 +4,14 @@
 //! write into lent bytes, or beside them, shows.
 
 pub mod baseline;
+#[cfg(feature = "planner")]
+pub mod builds;
 pub mod inputs;
 pub mod report;
+#[cfg(feature = "planner")]
+pub mod rooms;
 pub mod streams;
+pub mod timing;
 
 mod c {
     extern "C" {

@@ -52,12 +52,12 @@ be32-back s rest at x h e =
 
 -- ---- moves and steps
 
-moves-length : (moves : Step) → length (movesBytes moves) ≡ length moves * 2
+pub moves-length : (moves : Step) → length (movesBytes moves) ≡ length moves * 2
 unfolding movesBytes moveBytes
 moves-length [] = refl
 moves-length (move ∷ moves) = let h = moves-length moves in omega arith
 
-steps-bytes-length : (steps : List Step) → length (stepsBytes steps) ≡ length steps * 2 + moveTotal steps * 2
+pub steps-bytes-length : (steps : List Step) → length (stepsBytes steps) ≡ length steps * 2 + moveTotal steps * 2
 unfolding stepsBytes stepBytes bytes16 moveTotal sumOf
 steps-bytes-length [] = refl
 steps-bytes-length (step ∷ steps) =
@@ -174,7 +174,7 @@ module _ (steps : List Step) (z : shaped steps ≡ true) where
   unfolding planBytes headerBytes
   version-is = refl
 
-  stated-is : be32 (planBytes steps) 1 ≡ length (planBytes steps)
+  pub stated-is : be32 (planBytes steps) 1 ≡ length (planBytes steps)
   unfolding planBytes headerBytes
   stated-is =
       let a = size-is in let b = plan-size in

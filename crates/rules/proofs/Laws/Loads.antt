@@ -151,4 +151,10 @@ module _ (s places dests : List ℕ) (v p q : ℕ) (sums : List Tally) (vm : Nee
 pub loaded-end : (s places dests : List ℕ) (v : ℕ) (sums : List Tally) → Loaded s places dests v sums → v ≤ 0 → Loads s places dests sums
 loaded-end s places dests v sums w h =
     let z : v ≡ 0 = omega arith in
-    record { each = λ d g. w .each d g ∙ ap (λ (k : ℕ). tallyAt (roomOf s) d (busyFrom places dests k (vmCount s - k))) z ∙ ap (λ (k : ℕ). tallyAt (roomOf s) d (busyFrom places dests 0 k)) (sub-zero (vmCount s)) }
+    let all : vmCount s - v ≡ vmCount s = omega arith in
+    record {
+      size = w .size;
+      each = λ d g. w .each d g ∙ ap (λ (k : ℕ). tallyAt (roomOf s) d (busyFrom places dests k (vmCount s - k))) z ∙ ap (λ (k : ℕ). tallyAt (roomOf s) d (busyFrom places dests 0 k)) (sub-zero (vmCount s));
+      memory-most = λ d. rw (← all) (w .memory-most d);
+      cpu-most = λ d. rw (← all) (w .cpu-most d);
+    }

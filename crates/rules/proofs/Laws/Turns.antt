@@ -40,14 +40,14 @@ use Rattle.rules.specs.Promises.{Checked}
 -- ---- a placement in an array, after a step
 
 -- the moves of a well named step touch the first places only, and send to nodes that there are
-after-held : (s places : List ℕ) (start : Placement) (least : ℕ) (step : Step) → named (roomOf s) start least step ≡ true → held s (after places step) ≡ after (held s places) step
+pub after-held : (s places : List ℕ) (start : Placement) (least : ℕ) (step : Step) → named (roomOf s) start least step ≡ true → held s (after places step) ≡ after (held s places) step
 unfolding after held
 after-held s places start least [] n = refl
 after-held s places start least (move ∷ moves) n =
     after-held s (set places (move .vm) (move .to)) start (suc (move .vm)) moves (named-rest s start least move moves n) ∙
     ap (λ (x : Placement). after x moves) (take-set-lt (vmCount s) places (move .vm) (move .to) (named-vm s start least move moves n))
 
-set-below : (s places : List ℕ) (v d : ℕ) → Placed s places → d < nodeCount s → Placed s (set places v d)
+pub set-below : (s places : List ℕ) (v d : ℕ) → Placed s places → d < nodeCount s → Placed s (set places v d)
 set-below s places v d p h = record { below = below }
   where
     below : (u : ℕ) → getD (set places v d) u 0 < nodeCount s
@@ -58,7 +58,7 @@ set-below s places v d p h = record { below = below }
         (λ l. rw (set-out places v d (omega arith)) (p .below u)))
         (λ q. rw (getD-set-other places v u d 0 q) (p .below u))
 
-after-placed : (s places : List ℕ) (start : Placement) (least : ℕ) (step : Step) → named (roomOf s) start least step ≡ true → Placed s places → Placed s (after places step)
+pub after-placed : (s places : List ℕ) (start : Placement) (least : ℕ) (step : Step) → named (roomOf s) start least step ≡ true → Placed s places → Placed s (after places step)
 unfolding after
 after-placed s places start least [] n p = p
 after-placed s places start least (move ∷ moves) n p =

@@ -1,22 +1,23 @@
-//! Measures the library's `check` beside the model and the baseline on the inputs of `inputs`, after comparing
-//! library, baseline and model on each. Buffers are not cleared between calls, so caches are warm.
+//! Measures the library's `check` beside the model and the baseline on the inputs of `inputs`, after
+//! comparing library, baseline and model on each; with the planner, `build` beside the model on
+//! those of `rooms`. Buffers are not cleared between calls, so caches are warm.
 
 use kobdrieft_harness::inputs::{all, Input};
+use kobdrieft_harness::timing::measure;
 use kobdrieft_harness::{baseline, check, streams};
 use kobdrieft_model as model;
 use kobdrieft_model::edges::edges;
 use kobdrieft_model::gen::{cases, Rng};
 use std::hint::black_box;
 use std::process::exit;
-use std::time::{Duration, Instant};
-
-/// Rounds for each input. The sides take turns.
-const ROUNDS: usize = 21;
-
-/// How long one side's round is to take.
-const ROUND: Duration = Duration::from_millis(10);
 
 fn main() {
+    checks();
+    #[cfg(feature = "planner")]
+    planning::builds();
+}
+
+fn checks() {
     let inputs = all();
     print_list(&inputs);
     inputs.iter().for_each(verify);
@@ -96,7 +97,7 @@ fn print_table(inputs: &[Input]) {
     println!("|---|--:|--:|--:|--:|--:|--:|--:|");
     let mut largest = [(0.0, ""); 2];
     for input in inputs {
-        let [library, plain, simple] = measure(input);
+        let [library, plain, simple] = times(input);
         let ratios = [library / plain, library / simple];
         let (record, plan) = (input.cluster.len(), input.plan.len());
         let (library, plain, simple) = (library / 1e3, plain / 1e3, simple / 1e3);
@@ -114,43 +115,73 @@ fn print_table(inputs: &[Input]) {
     println!("largest ratio to the model {:.2} ({})", largest[0].0, largest[0].1);
 }
 
-/// Median nanoseconds a call: the library, the model, the baseline. They take turns.
-fn measure(input: &Input) -> [f64; 3] {
+/// Median nanoseconds a call: the library, the model, the baseline.
+fn times(input: &Input) -> [f64; 3] {
     let (cluster, plan) = (&input.cluster[..], &input.plan[..]);
     let library = || check(black_box(cluster), black_box(plan));
     let plain = || model::pack_verdict(model::check(black_box(cluster), black_box(plan)));
     let simple = || baseline::check(black_box(cluster), black_box(plan));
-    let calls = [calls_a_round(library), calls_a_round(plain), calls_a_round(simple)];
-    let mut times = [Vec::new(), Vec::new(), Vec::new()];
-    for _ in 0..ROUNDS {
-        times[0].push(round(library, calls[0]));
-        times[1].push(round(plain, calls[1]));
-        times[2].push(round(simple, calls[2]));
-    }
-    times.map(median)
+    measure([&library, &plain, &simple]).map(|time| time.nanos)
 }
 
-/// How many calls fill a round; this also warms up.
-fn calls_a_round(call: impl Fn() -> u64) -> u32 {
-    let start = Instant::now();
-    let mut calls = 0;
-    while start.elapsed() < ROUND {
-        black_box(call());
-        calls += 1;
-    }
-    calls
-}
+// ---------------------------------------------------------------- the planner
 
-/// Nanoseconds a call over one round.
-fn round(call: impl Fn() -> u64, calls: u32) -> f64 {
-    let start = Instant::now();
-    for _ in 0..calls {
-        black_box(call());
-    }
-    start.elapsed().as_nanos() as f64 / f64::from(calls)
-}
+#[cfg(feature = "planner")]
+mod planning {
+    use super::expect;
+    use kobdrieft_harness::build;
+    use kobdrieft_harness::rooms::{all, Ends, Task};
+    use kobdrieft_harness::timing::measure;
+    use kobdrieft_model::planner::BUFFER;
+    use kobdrieft_model::{self as model, Answer};
+    use std::hint::black_box;
 
-fn median(mut times: Vec<f64>) -> f64 {
-    times.sort_by(f64::total_cmp);
-    times[times.len() / 2]
+    pub fn builds() {
+        println!("\n| room | nodes | VMs | constraints | answer | steps | moves | library µs | model µs | ratio |");
+        println!("|---|--:|--:|--:|---|--:|--:|--:|--:|--:|");
+        for task in all() {
+            let moves = verify(&task);
+            let (nodes, vms) = (task.room.nodes.len(), task.room.vms.len());
+            let constraints = task.room.constraints.len();
+            let answer = format!("{:?}", task.ends).to_lowercase();
+            let [library, plain] = measure([&|| by_library(&task).0, &|| by_model(&task).0]);
+            let once = if plain.once { " (once)" } else { "" };
+            println!(
+                "| {} | {nodes} | {vms} | {constraints} | {answer} | {} | {moves} | {:.2} | {:.2}{once} | {:.4} |",
+                task.name,
+                task.steps,
+                library.nanos / 1e3,
+                plain.nanos / 1e3,
+                library.nanos / plain.nanos
+            );
+        }
+    }
+
+    /// A packed answer, and the buffer after the call.
+    type Built = (u64, [u8; BUFFER]);
+
+    fn by_library(task: &Task) -> Built {
+        let mut out = [0; BUFFER];
+        (build(black_box(&task.cluster), &mut out), out)
+    }
+
+    fn by_model(task: &Task) -> Built {
+        let mut out = [0; BUFFER];
+        (model::pack_answer(model::build(black_box(&task.cluster), &mut out)), out)
+    }
+
+    /// Stops unless the room is what it was made to be and library and model say the same of it;
+    /// the moves of its plan.
+    fn verify(task: &Task) -> u16 {
+        let answer = model::build(&task.cluster, &mut [0; BUFFER]);
+        let (ends, steps, moves) = match answer {
+            Answer::Plan { steps, moves, .. } => (Ends::Plan, steps, moves),
+            Answer::Blocked { steps, moves, .. } => (Ends::Blocked, steps, moves),
+            Answer::Refused { number, .. } => panic!("{}: refused {number}", task.name),
+        };
+        let made_for = ends == task.ends && steps == task.steps;
+        expect(made_for, task.name, &format!("the model's answer is another: {answer:?}"));
+        expect(by_library(task) == by_model(task), task.name, "the library differs");
+        moves
+    }
 }

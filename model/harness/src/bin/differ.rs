@@ -1,10 +1,15 @@
 //! `differ SEED COUNT [--seconds N]`: holds the library beside the model on all hand-set inputs,
-//! on COUNT generated ones and on larger rooms, and fails on any difference.
+//! on COUNT generated ones (with the planner, as many puzzles) and on larger rooms, and fails on
+//! any difference.
 
+#[cfg(feature = "planner")]
+use kobdrieft_harness::builds::buffer_length;
 use kobdrieft_harness::report::{Report, Stream};
 use kobdrieft_harness::streams::large;
 use kobdrieft_model::edges::edges;
 use kobdrieft_model::gen::{cases, Rng};
+#[cfg(feature = "planner")]
+use kobdrieft_model::{cluster_bytes, planner::BUFFER, puzzles::puzzle};
 use std::env;
 use std::process::exit;
 use std::time::{Duration, Instant};
@@ -61,7 +66,9 @@ fn hand_set(report: &mut Report) {
 /// many generated cases were done.
 fn generated(report: &mut Report, words: &Words) -> usize {
     let start = Instant::now();
-    let mut rng = Rng::new(!words.seed);
+    let mut rooms = Rng::new(!words.seed);
+    #[cfg(feature = "planner")]
+    let mut puzzles = Rng::new(!words.seed);
     for (i, case) in cases(words.seed, words.count).enumerate() {
         if words.time.is_some_and(|time| start.elapsed() >= time) {
             println!("time is up after {i} generated cases");
@@ -69,12 +76,21 @@ fn generated(report: &mut Report, words: &Words) -> usize {
         }
         report.check(Stream::Generated, &case.cluster, &case.plan);
         #[cfg(feature = "planner")]
-        report.build_in_two(Stream::Generated, i, &case.cluster, case.buffer);
+        planned(report, i, &case.cluster, &mut puzzles);
         if i % CASES_A_ROOM == 0 {
-            large_room(report, &mut rng);
+            large_room(report, &mut rooms);
         }
     }
     words.count
+}
+
+/// Every other case's cluster, whole or damaged, and a puzzle.
+#[cfg(feature = "planner")]
+fn planned(report: &mut Report, turn: usize, cluster: &[u8], puzzles: &mut Rng) {
+    if turn.is_multiple_of(2) {
+        report.build(Stream::Generated, cluster, buffer_length(turn / 2));
+    }
+    report.build(Stream::Puzzles, &cluster_bytes(&puzzle(puzzles)), buffer_length(turn));
 }
 
 fn large_room(report: &mut Report, rng: &mut Rng) {
@@ -83,5 +99,5 @@ fn large_room(report: &mut Report, rng: &mut Rng) {
         report.check(Stream::Large, &room.cluster, plan);
     }
     #[cfg(feature = "planner")]
-    report.build(Stream::Large, &room.cluster, kobdrieft_model::planner::BUFFER);
+    report.build(Stream::Large, &room.cluster, BUFFER);
 }

@@ -1,0 +1,31 @@
+-- Laws on going through the steps of a whole plan record.
+use Prim.Native.Nat.{ℕ, _+_, _-_, _≤_, _<_}
+use mathlib.Core.List.{List}
+use mathlib.Core.Path.{_≡_, sym, _∙_}
+use lib.ListN.{length}
+use native.Mathlib.Omega.{arith}
+use Rattle.records.specs.Room.{clusterCheck}
+use Rattle.records.specs.Plan.{stepCount, stepEnd, planCheck}
+use Rattle.records.specs.Inner.{Steps}
+use Rattle.records.specs.declared.faults.ClusterCheck.{ClusterCheck}
+use Rattle.records.specs.declared.faults.PlanCheck.{PlanCheck}
+use Rattle.records.proofs.Laws.Steps.{steps-start, steps-next, step-within}
+
+-- before any step, n of them being in the record
+pub walk-start : (s : List ℕ) (n : ℕ) → n ≡ stepCount s → planCheck s ≡ PlanCheck.Whole → Steps s 7 (n - 0)
+walk-start s n q p = let e : n - 0 ≡ stepCount s = omega arith in rw e (steps-start s p)
+
+-- at the step behind i of n
+module _ (s : List ℕ) (at i n : ℕ) (w : Steps s at (n - i)) (z : i < n) where
+  pub walk-here : stepEnd s at ≤ length s
+  walk-here = step-within s at (n - i) w (omega arith)
+
+  pub walk-next : (end : ℕ) → end ≡ stepEnd s at → Steps s end (n - (i + 1))
+  walk-next end q = let e : n - (i + 1) ≡ (n - i) - 1 = omega arith in rw (q, e) (steps-next s at (n - i) w (omega arith))
+
+-- what a look at a record found, once it is matched
+pub room-is-whole : (s : List ℕ) (found : ClusterCheck) → found ≡ clusterCheck s → found ≡ ClusterCheck.Whole → clusterCheck s ≡ ClusterCheck.Whole
+room-is-whole s found e q = sym e ∙ q
+
+pub plan-is-whole : (s : List ℕ) (found : PlanCheck) → found ≡ planCheck s → found ≡ PlanCheck.Whole → planCheck s ≡ PlanCheck.Whole
+plan-is-whole s found e q = sym e ∙ q

@@ -1,0 +1,13 @@
+-- The laws, by topic.
+pub mod Moves
+pub mod Packing
+pub mod Joining
+pub mod Turning
+pub mod Pairs
+pub mod Pivots
+pub mod Direct
+pub mod Budget
+pub mod Lone
+pub mod Making
+pub mod Answers
+pub mod Promised

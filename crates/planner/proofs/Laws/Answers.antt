@@ -1,0 +1,151 @@
+-- Laws on the answer: the record that is written, the refusals in their turn.
+use Prim.Native.Nat.{ℕ, zero, suc, _+_, _-_, _*_, _≤_, _<_, _^_}
+use mathlib.Core.Bool.{Bool, true, false}
+use mathlib.Core.List.{List, [], _∷_, _++_}
+use mathlib.Core.Path.{_≡_, refl, sym, ap, ap₂, _∙_}
+use native.Mathlib.Omega.{arith}
+use lib.ListN.{length, take, drop, length-append, length-drop}
+use lib.Seq.{take-at, length-take-le}
+use lib.Dec.{ltb}
+use borrow.Author.Tests.{lt-ltb, le-ltb}
+use Rattle.records.specs.Base.{pick}
+use Rattle.records.specs.Bytes.{be32, bytes16, bytes32}
+use Rattle.records.specs.Room.{Room, roomOf, clusterCheck}
+use Rattle.records.specs.Plan.{Step, moveTotal, stepsOf, shaped, stepsBytes, headerBytes, planBytes, written, planCheck}
+use Rattle.records.specs.declared.faults.ClusterFault.{ClusterFault}
+use Rattle.records.specs.declared.faults.ClusterCheck.{ClusterCheck}
+use Rattle.records.specs.declared.faults.PlanCheck.{PlanCheck}
+use Rattle.records.proofs.Laws.RoundTrip.{plan-length, plan-whole, steps-of-plan, stated-is}
+use Rattle.records.proofs.Laws.Written.{written-earlier, written-zero}
+use Rattle.rules.specs.Moments.{currentOf}
+use Rattle.rules.specs.Rules.{targetCheck}
+use Rattle.rules.specs.Cost.{costOf}
+use Rattle.rules.specs.Verdict.{home}
+use Rattle.rules.specs.Promises.{afterAll}
+use Rattle.rules.specs.declared.faults.TargetFault.{TargetFault}
+use Rattle.rules.specs.declared.faults.TargetCheck.{TargetCheck}
+use Rattle.planner.specs.Answer.{stepsFor, madeOf, outcome, onCluster, onTarget, answerOf, bufferOf}
+use Rattle.planner.specs.Inner.{Trailed, Answers}
+use Rattle.planner.specs.declared.steps.Trail.{Trail}
+use Rattle.planner.specs.declared.answer.Made.{Made}
+use Rattle.planner.specs.declared.answer.BuildFault.{BuildFault}
+use Rattle.planner.specs.declared.answer.BuildFault.the-variants.{Cluster, Target, Buffer}
+use Rattle.planner.specs.declared.answer.Answer.{Answer}
+use Rattle.planner.specs.declared.answer.Answer.the-variants.{Plan, Blocked, Refused}
+
+-- ---- the record that is written
+
+module _ (s before mid : List ℕ) (trail : Trail) (t : Trailed s before mid trail) (b : 2051 ≤ length before) where
+  plan-low : length (planBytes (stepsFor (roomOf s))) ≤ 2051
+  plan-low = let a = plan-length (stepsFor (roomOf s)) in let m = t .moves-most in let n = t .steps-most in omega arith
+
+  size-is : length (planBytes (stepsFor (roomOf s))) ≡ 7 + length (stepsBytes (stepsFor (roomOf s)))
+  unfolding planBytes headerBytes bytes32 bytes16
+  size-is = omega arith
+
+  end-low : trail .end ≤ length before
+  end-low = let a = plan-low in let c = size-is in let e = t .end in omega arith
+
+  module _ (out : List ℕ) (f : out ≡ written mid 0 (headerBytes (trail .end) (trail .steps))) where
+    record-is : out ≡ planBytes (stepsFor (roomOf s)) ++ drop (length (planBytes (stepsFor (roomOf s)))) before
+    unfolding planBytes headerBytes bytes32 bytes16
+    record-is =
+        let a = plan-low in let c = size-is in
+        f ∙ rw (t .buffer, t .end, t .steps)
+        (written-earlier before 0 (headerBytes (7 + length (stepsBytes (stepsFor (roomOf s)))) (length (stepsFor (roomOf s)))) (stepsBytes (stepsFor (roomOf s))) (omega arith)) ∙
+        written-zero before (planBytes (stepsFor (roomOf s)))
+
+    part-is : take (trail .end) out ≡ planBytes (stepsFor (roomOf s))
+    part-is =
+        let c = size-is in let e = t .end in
+        ap (take (trail .end)) record-is ∙
+        take-at (planBytes (stepsFor (roomOf s))) (drop (length (planBytes (stepsFor (roomOf s)))) before) (trail .end) (omega arith)
+
+    out-size : length out ≡ length before
+    out-size =
+        let a = plan-low in
+        let c = length-drop (length (planBytes (stepsFor (roomOf s)))) before in
+        let d = ap length record-is ∙ length-append (planBytes (stepsFor (roomOf s))) (drop (length (planBytes (stepsFor (roomOf s)))) before) in
+        omega arith
+
+    pub part-low : trail .end ≤ length out
+    part-low = let a = out-size in let c = end-low in omega arith
+
+    pub part-length : length (take (trail .end) out) ≡ trail .end
+    part-length = length-take-le (trail .end) out part-low
+
+    pub part-whole : planCheck (take (trail .end) out) ≡ PlanCheck.Whole
+    part-whole = ap planCheck part-is ∙ plan-whole (stepsFor (roomOf s)) (t .shaped)
+
+    module _ (cost : ℕ) (c : cost ≡ costOf (roomOf s) (stepsOf (take (trail .end) out))) (low : cost < 2 ^ 43) where
+      cost-is : cost ≡ costOf (roomOf s) (stepsFor (roomOf s))
+      cost-is = c ∙ ap (costOf (roomOf s)) (ap stepsOf part-is ∙ steps-of-plan (stepsFor (roomOf s)) (t .shaped))
+
+      made : Made
+      made = record { steps = trail .steps; moves = trail .moves; cost = cost }
+
+      made-is : made ≡ madeOf (roomOf s) (stepsFor (roomOf s))
+      unfolding made madeOf
+      made-is i = record { steps = t .steps i; moves = t .moves i; cost = cost-is i }
+
+      steps-low : trail .steps < 2 ^ 9
+      steps-low = let a = t .steps in let m = t .steps-most in omega arith
+
+      moves-low : trail .moves < 2 ^ 9
+      moves-low = let a = t .moves in let m = t .moves-most in omega arith
+
+      pub answer-plan : trail .home ≡ true → Answers s (outcome (roomOf s) (stepsFor (roomOf s))) before out (Plan (record { steps = trail .steps; moves = trail .moves; cost = cost }))
+      unfolding made outcome bufferOf
+      answer-plan h =
+          let k : home (roomOf s) (afterAll (currentOf (roomOf s)) (stepsFor (roomOf s))) ≡ true = sym (t .home) ∙ h in
+          record { is = rw k (ap Plan made-is); buffer = rw k record-is; packs = (steps-low, moves-low, low) }
+
+      pub answer-blocked : trail .home ≡ false → Answers s (outcome (roomOf s) (stepsFor (roomOf s))) before out (Blocked (record { steps = trail .steps; moves = trail .moves; cost = cost }))
+      unfolding made outcome bufferOf
+      answer-blocked h =
+          let k : home (roomOf s) (afterAll (currentOf (roomOf s)) (stepsFor (roomOf s))) ≡ false = sym (t .home) ∙ h in
+          record { is = rw k (ap Blocked made-is); buffer = rw k record-is; packs = (steps-low, moves-low, low) }
+
+-- ---- the refusals
+
+-- one answer under two names
+answers-same : (s before after : List ℕ) (one two r : Answer) → one ≡ two → Answers s one before after r → Answers s two before after r
+answers-same s before after one two r e a = rw e at a
+
+refused-same : (s before : List ℕ) (answer : Answer) (f : BuildFault) → answer ≡ Refused f → Answers s answer before before (Refused f)
+unfolding bufferOf
+refused-same s before answer f e = rw e (record { is = refl; buffer = refl; packs = tt })
+
+module _ (s before : List ℕ) (rest : Answer) (found : TargetCheck) (e : found ≡ targetCheck (roomOf s)) where
+  pub answer-target : (f : TargetFault) → found ≡ TargetCheck.Bad f →
+      Answers s (onTarget (targetCheck (roomOf s)) (pick (ltb (length before) 2051) (Refused Buffer) rest)) before before (Refused (Target f))
+  unfolding onTarget
+  answer-target f g = refused-same s before (onTarget (targetCheck (roomOf s)) (pick (ltb (length before) 2051) (Refused Buffer) rest)) (Target f) (rw (sym e ∙ g))
+
+  module _ (g : found ≡ TargetCheck.Good) where
+    pub answer-buffer : length before < 2051 → Answers s (onTarget (targetCheck (roomOf s)) (pick (ltb (length before) 2051) (Refused Buffer) rest)) before before (Refused Buffer)
+    unfolding onTarget
+    answer-buffer h =
+        refused-same s before (onTarget (targetCheck (roomOf s)) (pick (ltb (length before) 2051) (Refused Buffer) rest)) Buffer (rw (sym e ∙ g, lt-ltb (length before) 2051 h))
+
+    pub answer-taken : (after : List ℕ) (r : Answer) → Answers s rest before after r → 2051 ≤ length before →
+        Answers s (onTarget (targetCheck (roomOf s)) (pick (ltb (length before) 2051) (Refused Buffer) rest)) before after r
+    unfolding onTarget
+    answer-taken after r a h =
+        answers-same s before after rest (onTarget (targetCheck (roomOf s)) (pick (ltb (length before) 2051) (Refused Buffer) rest)) r (rw (sym e ∙ g, le-ltb (length before) 2051 h)) a
+
+module _ (s before : List ℕ) (found : ClusterCheck) (e : found ≡ clusterCheck s) where
+  pub answer-cluster : (f : ClusterFault) → found ≡ ClusterCheck.Damaged f → Answers s (answerOf s (length before)) before before (Refused (Cluster f))
+  unfolding answerOf onCluster
+  answer-cluster f g = refused-same s before (answerOf s (length before)) (Cluster f) (rw (sym e ∙ g))
+
+  pub cluster-whole : found ≡ ClusterCheck.Whole → clusterCheck s ≡ ClusterCheck.Whole
+  cluster-whole g = sym e ∙ g
+
+  pub answer-whole : (after : List ℕ) (r : Answer) →
+      Answers s (onTarget (targetCheck (roomOf s)) (pick (ltb (length before) 2051) (Refused Buffer) (outcome (roomOf s) (stepsFor (roomOf s))))) before after r →
+      found ≡ ClusterCheck.Whole → Answers s (answerOf s (length before)) before after r
+  unfolding answerOf onCluster
+  answer-whole after r a g =
+      answers-same s before after (onTarget (targetCheck (roomOf s)) (pick (ltb (length before) 2051) (Refused Buffer) (outcome (roomOf s) (stepsFor (roomOf s)))))
+      (answerOf s (length before)) r (rw (sym e ∙ g)) a

@@ -1,0 +1,159 @@
+-- Laws on a move that is added to a step held as an array of destinations: the test at its destination is the test of the whole step.
+use Prim.Native.Nat.{ℕ, zero, suc, _+_, _-_, _*_, _≤_, _<_, _^_}
+use mathlib.Core.Bool.{Bool, true, false, not, _&&_, false≢true}
+use mathlib.Core.List.{List, [], _∷_, _++_}
+use mathlib.Core.Logic.{by-cases}
+use mathlib.Core.Path.{_≡_, refl, sym, ap, ap₂, _∙_}
+use native.Mathlib.Decide.{ℕ-discrete}
+use native.Mathlib.Omega.{arith}
+use lib.ListN.{length, getD, set, replicate, length-set, getD-replicate}
+use lib.Seq.{set-getD, set-comm, getD-set-same, getD-set-other}
+use lib.Dec.{ltb, eqb}
+use borrow.Author.Tests.{ltb-true, lt-ltb, eq-eqb, ne-eqb, eqb-true, eqb-false, not-true}
+use mir.Syntax.{w64}
+use mir.Val.{Fits}
+use Rattle.records.specs.Base.{pick, all}
+use Rattle.records.specs.Room.{Room, roomOf, vmOf, nodeOf, nodeCount, vmCount, clusterCheck}
+use Rattle.records.specs.Plan.{Move, Step}
+use Rattle.records.specs.declared.faults.ClusterCheck.the-variants.{Whole}
+use Rattle.records.proofs.Laws.Bools.{and-left, and-right, and-both, bool-iff, all-head, all-tail}
+use Rattle.records.proofs.Laws.Cluster.{nodes-most, vms-most, vms-count, nodes-count}
+use Rattle.rules.specs.Moments.{Placement, placeOf, targetOf, Moment, emptyTally, within, withVm, tallyAt, firstMoment, allRunning}
+use Rattle.rules.specs.Orders.{meetsMate}
+use Rattle.rules.specs.Rules.{allowed, named, soundStep}
+use Rattle.rules.specs.Inner.{NeedOf, held, Placed, destsFrom, busyFrom, Loads, Allows}
+use Rattle.rules.specs.declared.tally.Need.{Need}
+use Rattle.rules.specs.declared.tally.Tally.{Tally}
+use Rattle.rules.proofs.Laws.Adding.{joins, adding, alone}
+use Rattle.rules.proofs.Laws.Fit.{held-at, running-is}
+use Rattle.rules.proofs.Laws.Places.{target-at}
+use Rattle.rules.proofs.Laws.Sound.{sound-named}
+use Rattle.planner.specs.Picks.{moving, direct, away, canGo, joined}
+use Rattle.planner.specs.Inner.{Light, joinsIn, goalOf}
+
+-- ---- indices
+
+module _ (s : List ℕ) (v d : ℕ) (w : clusterCheck s ≡ Whole) (t : v < vmCount s) where
+  pub vm-low : v < 256
+  vm-low = let m = vms-most s w in omega arith
+
+  pub row-offset : Fits w64 (v * 64)
+  row-offset = let m = vms-most s w in record { fits = omega arith }
+
+  pub mark-offset : d < nodeCount s → Fits w64 (v * 64 + d)
+  mark-offset n = let m = vms-most s w in let k = nodes-most s w in record { fits = omega arith }
+
+  pub mark-index : d < nodeCount s → v * 64 + d < 16384
+  mark-index n = let m = vms-most s w in let k = nodes-most s w in omega arith
+
+pub sum-offset : (s : List ℕ) (d : ℕ) → clusterCheck s ≡ Whole → d < nodeCount s → Fits w64 (d * 16)
+sum-offset s d w h = let m = nodes-most s w in record { fits = omega arith }
+
+pub sum-index : (s : List ℕ) (d : ℕ) → clusterCheck s ≡ Whole → d < nodeCount s → d < 65
+sum-index s d w h = let m = nodes-most s w in omega arith
+
+pub node-low : (s : List ℕ) (d : ℕ) → clusterCheck s ≡ Whole → d < nodeCount s → d < 64
+node-low s d w h = let m = nodes-most s w in omega arith
+
+-- ---- the tests, one by one
+
+pub with-is : (room : Room) (v : ℕ) (need : Need) (here sum : Tally) → sum ≡ record { memory = here .memory + need .memory; cpu = here .cpu + need .cpu } →
+    NeedOf room v need → sum ≡ withVm here (vmOf room v)
+with-is room v need here sum e n = e ∙ (λ i. record { memory = here .memory + n .memory i; cpu = here .cpu + n .cpu i })
+
+pub with-fits : (room : Room) (v d : ℕ) (need : Need) (here sum : Tally) (ok : Bool) → sum ≡ record { memory = here .memory + need .memory; cpu = here .cpu + need .cpu } →
+    ok ≡ within (nodeOf room d) sum → NeedOf room v need → ok ≡ within (nodeOf room d) (withVm here (vmOf room v))
+with-fits room v d need here sum ok e o n = o ∙ ap (within (nodeOf room d)) (with-is room v need here sum e n)
+
+module _ (s places dests : List ℕ) (here : Tally) (v d : ℕ) where
+  pub join-stays : (p : ℕ) → p ≡ getD places v 0 → p ≡ d → false ≡ joinsIn s places dests here v d
+  unfolding joinsIn
+  join-stays p e f = rw (eq-eqb (getD places v 0) d (sym e ∙ f))
+
+  module _ (p : ℕ) (e : p ≡ getD places v 0) (f : p ≡ d → ⊥) where
+    leaves : eqb (getD places v 0) d ≡ false
+    leaves = ne-eqb (getD places v 0) d (λ x. f (e ∙ x))
+
+    module _ (table : List ℕ) (a : Allows s table) (w : clusterCheck s ≡ Whole) (t : v < vmCount s) (n : d < nodeCount s) where
+      marked : getD table (v * 64 + d) 0 ≡ pick (allowed (roomOf s) v d) 1 0
+      marked = let b = nodes-most s w in a .each v d t (omega arith)
+
+      pub join-kept : getD table (v * 64 + d) 0 ≡ 0 → false ≡ joinsIn s places dests here v d
+      unfolding joinsIn
+      join-kept z = go (allowed (roomOf s) v d) refl
+        where
+          go : (x : Bool) → allowed (roomOf s) v d ≡ x → false ≡ joinsIn s places dests here v d
+          go true q = absurd (let k : getD table (v * 64 + d) 0 ≡ 1 = marked ∙ ap (λ (b : Bool). pick b 1 0) q in omega arith)
+          go false q = rw (leaves, q)
+
+      is-allowed : (getD table (v * 64 + d) 0 ≡ 0 → ⊥) → allowed (roomOf s) v d ≡ true
+      is-allowed z = go (allowed (roomOf s) v d) refl
+        where
+          go : (x : Bool) → allowed (roomOf s) v d ≡ x → allowed (roomOf s) v d ≡ true
+          go true q = q
+          go false q = absurd (z (marked ∙ ap (λ (b : Bool). pick b 1 0) q))
+
+      module _ (z : getD table (v * 64 + d) 0 ≡ 0 → ⊥) (ok : Bool) (o : ok ≡ within (nodeOf (roomOf s) d) (withVm here (vmOf (roomOf s) v))) where
+        pub join-full : ok ≡ false → false ≡ joinsIn s places dests here v d
+        unfolding joinsIn
+        join-full q = rw (leaves, is-allowed z, ← o, q)
+
+        pub join-met : (met : Bool) → met ≡ meetsMate (roomOf s) (busyFrom places dests 0 (vmCount s)) v d → ok ≡ true → not met ≡ joinsIn s places dests here v d
+        unfolding joinsIn
+        join-met met x q = rw (leaves, is-allowed z, ← o, q, x)
+
+-- where a VM goes
+module _ (s places dests : List ℕ) (here : Tally) (v to : ℕ) (ok : Bool) (e : to ≡ vmOf (roomOf s) v .target) (o : ok ≡ joinsIn s places dests here v to) where
+  pub goal-target : ok ≡ true → to ≡ goalOf s places dests here v
+  unfolding goalOf
+  goal-target q = let x : joinsIn s places dests here v (vmOf (roomOf s) v .target) ≡ true = ap (joinsIn s places dests here v) (sym e) ∙ sym o ∙ q in rw (x, e)
+
+  pub goal-none : ok ≡ false → 64 ≡ goalOf s places dests here v
+  unfolding goalOf
+  goal-none q = let x : joinsIn s places dests here v (vmOf (roomOf s) v .target) ≡ false = ap (joinsIn s places dests here v) (sym e) ∙ sym o ∙ q in rw x
+
+-- ---- the step with one move more
+
+-- the array of its destinations
+pub dests-longer : (step : Step) (v d : ℕ) → all (λ move. ltb (move .vm) v) step ≡ true →
+    destsFrom (step ++ (moving v d ∷ [])) ≡ set (destsFrom step) v d
+unfolding destsFrom
+dests-longer [] v d a = refl
+dests-longer (move ∷ moves) v d a =
+    let h = ltb-true (move .vm) v (all-head (λ m. ltb (m .vm) v) move moves a) in
+    ap (λ (l : List ℕ). set l (move .vm) (move .to)) (dests-longer moves v d (all-tail (λ m. ltb (m .vm) v) move moves a)) ∙
+    set-comm (destsFrom moves) v (move .vm) d (move .to) (λ e. omega arith)
+
+-- a VM above all moves has no destination
+pub dests-above : (step : Step) (v : ℕ) → v < 256 → all (λ move. ltb (move .vm) v) step ≡ true → getD (destsFrom step) v 0 ≡ 64
+unfolding destsFrom
+dests-above [] v h a = getD-replicate {A = ℕ} 256 v 64 0 h
+dests-above (move ∷ moves) v h a =
+    let k = ltb-true (move .vm) v (all-head (λ m. ltb (m .vm) v) move moves a) in
+    getD-set-other (destsFrom moves) (move .vm) v (move .to) 0 (λ e. omega arith) ∙ dests-above moves v h (all-tail (λ m. ltb (m .vm) v) move moves a)
+
+eqb-turn : (a b : ℕ) → eqb a b ≡ eqb b a
+eqb-turn a b = bool-iff (eqb a b) (eqb b a) (λ e. eq-eqb b a (sym (eqb-true a b e))) (λ e. eq-eqb a b (sym (eqb-true b a e)))
+
+-- what the arrays give is what the step gives
+module _ (s places dests : List ℕ) (step : Step) (here : Tally) (v d : ℕ) (w : clusterCheck s ≡ Whole) (q : dests ≡ destsFrom step)
+    (sound : soundStep (roomOf s) (held s places) step ≡ true)
+    (h : here ≡ tallyAt (roomOf s) d (allRunning (firstMoment (roomOf s) (held s places) step))) (t : v < vmCount s) (n : d < nodeCount s) where
+  pub joins-is : joinsIn s places dests here v d ≡ joins (roomOf s) (held s places) step v d
+  unfolding joinsIn joins
+  joins-is =
+      let vms = vms-count s in
+      let nodes = nodes-count s in
+      rw (
+        lt-ltb v (length (roomOf s .vms)) (omega arith),
+        lt-ltb d (length (roomOf s .nodes)) (omega arith),
+        held-at s places v t,
+        eqb-turn d (getD places v 0),
+        h,
+        q,
+        running-is s places step w (sound-named (roomOf s) (held s places) step sound),
+      )
+
+  module _ (a : all (λ move. ltb (move .vm) v) step ≡ true) where
+    pub longer-sound : soundStep (roomOf s) (held s places) (step ++ (moving v d ∷ [])) ≡ joinsIn s places dests here v d
+    longer-sound = adding (roomOf s) (held s places) step v d sound a ∙ sym joins-is

@@ -1,0 +1,380 @@
+-- Laws on pivots: the step that is picked; and, where no direct move is sound, that a pivot of a VM helps to whichever node it goes, or to none.
+use Prim.Native.Nat.{ℕ, zero, suc, _+_, _≤_, _<_}
+use mathlib.Core.Bool.{Bool, true, false, not, _&&_, _||_, or-true, and-true, and-false, false≢true}
+use mathlib.Core.List.{List, [], _∷_}
+use mathlib.Core.Logic.{_⊎_, inl, inr, ⊎-elim, by-cases}
+use mathlib.Core.Path.{_≡_, refl, sym, ap, _∙_}
+use native.Mathlib.Decide.{ℕ-discrete}
+use native.Mathlib.Omega.{arith}
+use lib.ListN.{length, set}
+use lib.Seq.{getD-set-same, getD-set-other}
+use lib.Dec.{ltb, eqb}
+use borrow.Author.Tests.{ltb-true, lt-ltb, le-ltb, eqb-true, eqb-false, eq-eqb, not-true}
+use Rattle.records.specs.Base.{pick, all}
+use Rattle.records.specs.Room.{Room, Node, vmOf, nodeOf}
+use Rattle.records.specs.Plan.{Move, Step}
+use Rattle.records.proofs.Laws.Bools.{and-left, and-right, and-both, bool-iff, all-head, all-tail}
+use Rattle.rules.specs.Moments.{Placement, placeOf, targetOf, after, within, withVm, idle, cell, Moment, countsOn, tallyAt, phaseOf, cellsFrom, firstMoment, begun, allRunning}
+use Rattle.rules.specs.Orders.{some, meetsMate}
+use Rattle.rules.specs.Rules.{from, soundStep}
+use Rattle.rules.proofs.Laws.Orders.{never, Under, empty, both, meets-under, within-under}
+use Rattle.rules.proofs.Laws.Adding.{joins, Joins, joins-tests, alone, empty-sound}
+use Rattle.planner.specs.Picks.{vmsIn, nodesIn, away, moving, canGo, otherGoes, useful, orElse, pivotAmong, pivotFirst, pivotStep}
+use Rattle.planner.specs.Inner.{aside, pivotNode, comer, comesTo, usefulNode}
+
+-- ---- small words
+
+is-false : (a : Bool) → (a ≡ true → ⊥) → a ≡ false
+is-false true n = absurd (n refl)
+is-false false n = refl
+
+some-more : {A : Type 0} (p q : A → Bool) → ((x : A) → p x ≡ true → q x ≡ true) → (xs : List A) → some p xs ≡ true → some q xs ≡ true
+unfolding some
+some-more p q h [] e = e
+some-more p q h (x ∷ xs) e = either (p x) (q x) (h x) (some-more p q h xs) e
+  where
+    either : (a b : Bool) {s t : Bool} → (a ≡ true → b ≡ true) → (s ≡ true → t ≡ true) → (a || s) ≡ true → (b || t) ≡ true
+    either true b g r e = rw (g refl)
+    either false b g r e = rw (r e) (or-true b)
+
+-- a test of all numbers of a range
+from-at : (p : ℕ → Bool) (k n v : ℕ) → all p (from k n) ≡ true → k ≤ v → v < k + n → p v ≡ true
+unfolding from
+from-at p k zero v a l h = absurd (omega arith)
+from-at p k (suc n) v a l h =
+    by-cases (ℕ-discrete k v) (λ e. rw (← e) (all-head p k (from (suc k) n) a)) (λ e. from-at p (suc k) n v (all-tail p k (from (suc k) n) a) (omega arith) (omega arith))
+
+from-below : (m k n : ℕ) → k + n ≤ m → all (λ d. ltb d m) (from k n) ≡ true
+unfolding from all
+from-below m k zero h = refl
+from-below m k (suc n) h = let l : k < m = omega arith in and-both (lt-ltb k m l) (from-below m (suc k) n (omega arith))
+
+pub nodes-below : (room : Room) → all (λ d. ltb d (length (room .nodes))) (nodesIn room) ≡ true
+nodes-below room = from-below (length (room .nodes)) 0 (length (room .nodes)) (omega arith)
+
+-- ---- one pivot
+
+module _ (room : Room) (places : Placement) (v d : ℕ) where
+  -- what a sound move passes
+  sound-alone : soundStep room places (moving v d ∷ []) ≡ true → Joins room places [] v d
+  sound-alone s = joins-tests room places [] v d (sym (alone room places v d) ∙ s)
+
+  -- useful by three tests: that d is not v's place is part of being sound
+  useful-is : useful room places v d ≡ (away room places v && (aside room places v d && otherGoes room (after places (moving v d ∷ [])) v))
+  unfolding useful aside
+  useful-is =
+      ordered (away room places v) (not (eqb d (placeOf places v))) (not (eqb d (placeOf (targetOf room) v))) (soundStep room places (moving v d ∷ []))
+      (otherGoes room (after places (moving v d ∷ [])) v) (λ s. sound-alone s .off)
+    where
+      ordered : (a o t s g : Bool) → (s ≡ true → o ≡ true) → ((a && (o && t)) && (s && g)) ≡ (a && ((t && s) && g))
+      ordered false o t s g h = refl
+      ordered true true true s g h = refl
+      ordered true true false s g h = refl
+      ordered true false t true g h = absurd (false≢true (h refl))
+      ordered true false true false g h = refl
+      ordered true false false false g h = refl
+
+  pub useful-sound : useful room places v d ≡ true → soundStep room places (moving v d ∷ []) ≡ true
+  unfolding aside
+  useful-sound u =
+      and-right (not (eqb d (placeOf (targetOf room) v))) (soundStep room places (moving v d ∷ []))
+      (and-left (aside room places v d) (otherGoes room (after places (moving v d ∷ [])) v) (and-right (away room places v) _ (sym useful-is ∙ u)))
+
+-- a step is one useful pivot
+pub record IsPivot (room : Room) (places : Placement) (move : Move) (moves : Step) : Type 0 where
+  pub only : moves ≡ []
+  pub helps : useful room places (move .vm) (move .to) ≡ true
+  pub there : move .vm < length (room .vms)
+
+-- ---- the pivots of one VM
+
+module _ (room : Room) (places : Placement) (v : ℕ) where
+  -- the step of the first useful pivot, by its node
+  pub among-is : (ds : List ℕ) → all (λ d. ltb d (length (room .nodes))) ds ≡ true →
+      pivotAmong room places v ds ≡ pick (ltb (usefulNode room places v ds) (length (room .nodes))) (moving v (usefulNode room places v ds) ∷ []) []
+  unfolding pivotAmong usefulNode
+  among-is [] b = rw (le-ltb (length (room .nodes)) (length (room .nodes)) (omega arith))
+  among-is (d ∷ ds) b =
+      go (useful room places v d) (pivotAmong room places v ds) (usefulNode room places v ds) (all-head _ d ds b) (among-is ds (all-tail _ d ds b))
+    where
+      go : (b : Bool) (step : Step) (e : ℕ) → ltb d (length (room .nodes)) ≡ true → step ≡ pick (ltb e (length (room .nodes))) (moving v e ∷ []) [] →
+          pick b (moving v d ∷ []) step ≡ pick (ltb (pick b d e) (length (room .nodes))) (moving v (pick b d e) ∷ []) []
+      go true step e l i = rw l
+      go false step e l i = i
+
+  pub pivot-among : pivotAmong room places v (nodesIn room) ≡
+      pick (ltb (usefulNode room places v (nodesIn room)) (length (room .nodes))) (moving v (usefulNode room places v (nodesIn room)) ∷ []) []
+  pivot-among = among-is (nodesIn room) (nodes-below room)
+
+  -- a step that is picked is one useful pivot
+  among-moves : (ds : List ℕ) (move : Move) (moves : Step) → pivotAmong room places v ds ≡ move ∷ moves → IsPivot room places move moves
+  unfolding pivotAmong
+  among-moves [] move moves e = never (cc)
+  among-moves (d ∷ ds) move moves e = go (useful room places v d) refl e (among-moves ds move moves)
+    where
+      go : (b : Bool) → useful room places v d ≡ b → pick b (moving v d ∷ []) (pivotAmong room places v ds) ≡ move ∷ moves →
+          (pivotAmong room places v ds ≡ move ∷ moves → IsPivot room places move moves) → IsPivot room places move moves
+      go true u e later =
+          let m : move ≡ moving v d = cc in
+          record { only = cc; helps = rw m u; there = rw m (sound-alone room places v d (useful-sound room places v d u) .vm-there) }
+      go false u e later = later e
+
+  -- nothing is picked exactly if no pivot is useful
+  among-none : (ds : List ℕ) → pivotAmong room places v ds ≡ [] → all (λ d. not (useful room places v d)) ds ≡ true
+  unfolding pivotAmong all
+  among-none [] e = refl
+  among-none (d ∷ ds) e = go (useful room places v d) e (among-none ds)
+    where
+      go : (b : Bool) → pick b (moving v d ∷ []) (pivotAmong room places v ds) ≡ [] →
+          (pivotAmong room places v ds ≡ [] → all (λ d. not (useful room places v d)) ds ≡ true) → (not b && all (λ d. not (useful room places v d)) ds) ≡ true
+      go true e later = never (cc)
+      go false e later = later e
+
+  none-among : ((d : ℕ) → useful room places v d ≡ false) → (ds : List ℕ) → pivotAmong room places v ds ≡ []
+  unfolding pivotAmong
+  none-among n [] = refl
+  none-among n (d ∷ ds) = rw (n d) (none-among n ds)
+
+-- ---- the pivot of a room
+
+module _ (room : Room) (places : Placement) where
+  first-moves : (vs : List ℕ) (move : Move) (moves : Step) → pivotFirst room places vs ≡ move ∷ moves → IsPivot room places move moves
+  unfolding pivotFirst orElse
+  first-moves [] move moves e = never (cc)
+  first-moves (v ∷ vs) move moves e =
+      ⊎-elim (among-moves room places v (nodesIn room) move moves) (first-moves vs move moves)
+      (either (pivotAmong room places v (nodesIn room)) (pivotFirst room places vs) e)
+    where
+      either : (one two : Step) → orElse one two ≡ move ∷ moves → (one ≡ move ∷ moves) ⊎ (two ≡ move ∷ moves)
+      either [] two e = inr e
+      either (m ∷ ms) two e = inl e
+
+  pub pivot-is : (move : Move) (moves : Step) → pivotStep room places ≡ move ∷ moves → IsPivot room places move moves
+  unfolding pivotStep
+  pivot-is move moves e = first-moves (vmsIn room) move moves e
+
+  pub pivot-sound : soundStep room places (pivotStep room places) ≡ true
+  pivot-sound = go (pivotStep room places) refl
+    where
+      go : (step : Step) → pivotStep room places ≡ step → soundStep room places step ≡ true
+      go [] e = empty-sound room places
+      go (move ∷ moves) e =
+          let p = pivot-is move moves e in
+          rw (p .only) (useful-sound room places (move .vm) (move .to) (p .helps))
+
+  -- no pivot is picked exactly if none is useful
+  first-none : (vs : List ℕ) → pivotFirst room places vs ≡ [] → all (λ v. all (λ d. not (useful room places v d)) (nodesIn room)) vs ≡ true
+  unfolding pivotFirst orElse all
+  first-none [] e = refl
+  first-none (v ∷ vs) e =
+      let n = neither (pivotAmong room places v (nodesIn room)) (pivotFirst room places vs) e in
+      and-both (among-none room places v (nodesIn room) (n .0)) (first-none vs (n .1))
+    where
+      neither : (one two : Step) → orElse one two ≡ [] → (one ≡ []) × (two ≡ [])
+      neither [] two e = (refl, e)
+      neither (m ∷ ms) two e = never (cc)
+
+  pub pivot-none : pivotStep room places ≡ [] → (v d : ℕ) → v < length (room .vms) → d < length (room .nodes) → useful room places v d ≡ false
+  unfolding pivotStep
+  pivot-none e v d h l =
+      not-true (useful room places v d)
+      (from-at (λ d. not (useful room places v d)) 0 (length (room .nodes)) d
+      (from-at (λ v. all (λ d. not (useful room places v d)) (nodesIn room)) 0 (length (room .vms)) v (first-none (vmsIn room) e) (omega arith) (omega arith)) (omega arith) (omega arith))
+
+  pub no-pivot : pivotStep room places ≡ [] → (v d : ℕ) → useful room places v d ≡ false
+  no-pivot e v d =
+      is-false (useful room places v d)
+      (λ u. let j = sound-alone room places v d (useful-sound room places v d u) in false≢true (sym (pivot-none e v d (j .vm-there) (j .node-there)) ∙ u))
+
+  pub none-pivot : ((v d : ℕ) → useful room places v d ≡ false) → pivotStep room places ≡ []
+  unfolding pivotStep pivotFirst orElse
+  none-pivot n = go (vmsIn room)
+    where
+      go : (vs : List ℕ) → pivotFirst room places vs ≡ []
+      go [] = refl
+      go (v ∷ vs) = rw (none-among room places v (n v) (nodesIn room)) (go vs)
+
+-- ---- a move at a placement where its destination holds less
+
+-- what is on node d in the one placement is there in the other
+abbrev Stays : ℕ → Placement → Placement → Type 0
+Stays d p q = (w : ℕ) → placeOf p w ≡ d → placeOf q w ≡ d
+
+rest-under : (d : ℕ) (p q : Placement) → Stays d p q → (k n : ℕ) → Under d (allRunning (cellsFrom p [] k n)) (allRunning (cellsFrom q [] k n))
+unfolding cellsFrom allRunning phaseOf begun countsOn
+rest-under d p q s k zero = empty
+rest-under d p q s k (suc n) = both (λ e. eq-eqb (placeOf q k) d (s k (eqb-true (placeOf p k) d e))) (rest-under d p q s (suc k) n)
+
+-- a tally with one VM more is the tally with that VM at rest there
+with-one : (room : Room) (d v : ℕ) (cs : Moment) → tallyAt room d (cell v d idle ∷ cs) ≡ withVm (tallyAt room d cs) (vmOf room v)
+unfolding tallyAt countsOn
+with-one room d v cs = rw (eq-eqb d d refl)
+
+fit-under : {d : ℕ} {cs bs : Moment} (room : Room) (node : Node) (v : ℕ) → Under d cs bs →
+    within node (withVm (tallyAt room d bs) (vmOf room v)) ≡ true → within node (withVm (tallyAt room d cs) (vmOf room v)) ≡ true
+fit-under {d} {cs} {bs} room node v u e =
+    rw (← with-one room d v cs) (within-under room node (both {v = v} {p = d} {q = d} {x = idle} {y = idle} (λ h. h) u) (ap (within node) (with-one room d v bs) ∙ e))
+
+module _ (room : Room) (p q : Placement) (u : ℕ) (same : placeOf p u ≡ placeOf q u) where
+  -- a sound move of u at p is sound at q, if q has no VM more on its destination
+  joins-too : (d : ℕ) → Stays d q p → joins room p [] u d ≡ true → joins room q [] u d ≡ true
+  unfolding joins firstMoment
+  joins-too d s e =
+      let j = joins-tests room p [] u d e in
+      let under = rest-under d q p s 0 (length (room .vms)) in
+      and-both (and-both (lt-ltb u (length (room .vms)) (j .vm-there)) (and-both (lt-ltb d (length (room .nodes)) (j .node-there)) (rw (← same) (j .off))))
+      (and-both (j .allows) (and-both (fit-under room (nodeOf room d) u under (j .fit))
+      (ap not (is-false (meetsMate room (allRunning (firstMoment room q [])) u d) (λ m. false≢true (sym (j .apart) ∙ meets-under room u under m))))))
+
+  goes-too : Stays (placeOf (targetOf room) u) q p → canGo room p u ≡ true → canGo room q u ≡ true
+  unfolding canGo away
+  goes-too s e =
+      let d = placeOf (targetOf room) u in
+      and-both (rw same at (and-left (not (eqb (placeOf p u) d)) (soundStep room p (moving u d ∷ [])) e))
+      (alone room q u d ∙ joins-too d s (sym (alone room p u d) ∙ and-right (not (eqb (placeOf p u) d)) (soundStep room p (moving u d ∷ [])) e))
+
+-- ---- where no direct move is sound, a pivot of v helps to whichever node it goes, or to none
+
+module _ (room : Room) (places : Placement) (v : ℕ) where
+  -- the placement that a pivot leaves
+  abbrev moved : ℕ → Placement
+  moved d = after places (moving v d ∷ [])
+
+  -- another VM can go, and one to the node that v has left
+  abbrev other : Placement → ℕ → Bool
+  other p u = not (eqb u v) && canGo room p u
+
+  abbrev coming : Placement → ℕ → Bool
+  coming p u = eqb (placeOf (targetOf room) u) (placeOf places v) && other p u
+
+  is-other : (p : Placement) (u : ℕ) → other p u ≡ true → u ≡ v → ⊥
+  is-other p u e = eqb-false u v (not-true (eqb u v) (and-left (not (eqb u v)) (canGo room p u) e))
+
+  -- every VM but v is where it was
+  unmoved : (d u : ℕ) → (u ≡ v → ⊥) → placeOf (moved d) u ≡ placeOf places u
+  unfolding after
+  unmoved d u h = getD-set-other places v u d 0 h
+
+  module _ (none : (u : ℕ) → canGo room places u ≡ false) where
+    -- a VM that can go goes to the node that v has left
+    target-left : (d u : ℕ) → (u ≡ v → ⊥) → canGo room (moved d) u ≡ true → placeOf (targetOf room) u ≡ placeOf places v
+    target-left d u h g =
+        by-cases (ℕ-discrete (placeOf (targetOf room) u) (placeOf places v)) (λ e. e)
+        (λ n. absurd (false≢true (sym (none u) ∙ goes-too room (moved d) places u (unmoved d u h)
+        (λ w e. by-cases (ℕ-discrete w v) (λ x. absurd (n (sym e ∙ ap (placeOf places) x))) (λ x. unmoved d w x ∙ e)) g)))
+
+    pub comes-is : (d : ℕ) → otherGoes room (after places (moving v d ∷ [])) v ≡ comesTo room (after places (moving v d ∷ [])) v (placeOf places v) (vmsIn room)
+    unfolding otherGoes comesTo comer
+    comes-is d =
+        bool-iff (some (other (moved d)) (vmsIn room)) (some (coming (moved d)) (vmsIn room))
+        (some-more (other (moved d)) (coming (moved d))
+        (λ u e. and-both (eq-eqb (placeOf (targetOf room) u) (placeOf places v) (target-left d u (is-other (moved d) u e) (and-right (not (eqb u v)) (canGo room (moved d) u) e))) e) (vmsIn room))
+        (some-more (coming (moved d)) (other (moved d)) (λ u e. and-right (eqb (placeOf (targetOf room) u) (placeOf places v)) (other (moved d) u) e) (vmsIn room))
+
+  -- the node left holds the same whichever node v has gone to
+  module _ (len : length places ≡ length (room .vms)) where
+    left-same : (d e : ℕ) → soundStep room places (moving v e ∷ []) ≡ true → Stays (placeOf places v) (moved e) (moved d)
+    unfolding after
+    left-same d e s w h =
+        let j = sound-alone room places v e s in
+        by-cases (ℕ-discrete w v)
+        (λ x. absurd (eqb-false e (placeOf places v) (not-true (eqb e (placeOf places v)) (j .off))
+        (sym (getD-set-same places v e 0 (rw len (j .vm-there))) ∙ ap (placeOf (set places v e)) (sym x) ∙ h)))
+        (λ x. unmoved d w x ∙ sym (unmoved e w x) ∙ h)
+
+    comes-too : (d e : ℕ) → soundStep room places (moving v e ∷ []) ≡ true →
+        comesTo room (moved d) v (placeOf places v) (vmsIn room) ≡ true → comesTo room (moved e) v (placeOf places v) (vmsIn room) ≡ true
+    unfolding comesTo comer
+    comes-too d e s =
+        some-more (coming (moved d)) (coming (moved e))
+        (λ u c. let at = and-left (eqb (placeOf (targetOf room) u) (placeOf places v)) (other (moved d) u) c in
+        let o = and-right (eqb (placeOf (targetOf room) u) (placeOf places v)) (other (moved d) u) c in
+        let h = is-other (moved d) u o in
+        and-both at (and-both (and-left (not (eqb u v)) (canGo room (moved d) u) o)
+        (goes-too room (moved d) (moved e) u (unmoved d u h ∙ sym (unmoved e u h)) (rw (eqb-true (placeOf (targetOf room) u) (placeOf places v) at) (left-same d e s))
+        (and-right (not (eqb u v)) (canGo room (moved d) u) o)))) (vmsIn room)
+
+    pub same-help : ((u : ℕ) → canGo room places u ≡ false) → (d e : ℕ) → soundStep room places (moving v d ∷ []) ≡ true → soundStep room places (moving v e ∷ []) ≡ true →
+        otherGoes room (after places (moving v d ∷ [])) v ≡ otherGoes room (after places (moving v e ∷ [])) v
+    same-help none d e s r =
+        comes-is none d ∙
+        bool-iff (comesTo room (moved d) v (placeOf places v) (vmsIn room)) (comesTo room (moved e) v (placeOf places v) (vmsIn room)) (comes-too d e r) (comes-too e d s) ∙
+        sym (comes-is none e)
+
+-- ---- the node of the first useful pivot
+
+module _ (room : Room) (places : Placement) (v : ℕ) where
+  -- what the node found has passed
+  node-aside : (ds : List ℕ) → pivotNode room places v ds < length (room .nodes) → aside room places v (pivotNode room places v ds) ≡ true
+  unfolding pivotNode
+  node-aside [] h = absurd (omega arith)
+  node-aside (d ∷ ds) h = go (aside room places v d) refl h (node-aside ds)
+    where
+      go : (b : Bool) → aside room places v d ≡ b → pick b d (pivotNode room places v ds) < length (room .nodes) →
+          (pivotNode room places v ds < length (room .nodes) → aside room places v (pivotNode room places v ds) ≡ true) →
+          aside room places v (pick b d (pivotNode room places v ds)) ≡ true
+      go true e h later = e
+      go false e h later = later h
+
+  pub pivot-node-sound : (d : ℕ) → d ≡ pivotNode room places v (nodesIn room) → d < length (room .nodes) → soundStep room places (moving v d ∷ []) ≡ true
+  unfolding aside
+  pivot-node-sound d e h =
+      and-right (not (eqb d (placeOf (targetOf room) v))) (soundStep room places (moving v d ∷ []))
+      (rw (← e) at (node-aside (nodesIn room) (rw (← e) h)))
+
+  -- it is the first useful one if every such node is useful
+  first-aside : ((d : ℕ) → useful room places v d ≡ aside room places v d) → (ds : List ℕ) → pivotNode room places v ds ≡ usefulNode room places v ds
+  unfolding pivotNode usefulNode
+  first-aside n [] = refl
+  first-aside n (d ∷ ds) = rw (n d) (ap (pick (aside room places v d) d) (first-aside n ds))
+
+  -- without such a node none is useful
+  none-aside : (ds : List ℕ) → all (λ d. ltb d (length (room .nodes))) ds ≡ true → length (room .nodes) ≤ pivotNode room places v ds → length (room .nodes) ≡ usefulNode room places v ds
+  unfolding pivotNode usefulNode
+  none-aside [] b h = refl
+  none-aside (d ∷ ds) b h =
+      go (aside room places v d) refl (ltb-true d (length (room .nodes)) (all-head _ d ds b)) h
+      (none-aside ds (all-tail _ d ds b))
+    where
+      go : (t : Bool) → aside room places v d ≡ t → d < length (room .nodes) → length (room .nodes) ≤ pick t d (pivotNode room places v ds) →
+          (length (room .nodes) ≤ pivotNode room places v ds → length (room .nodes) ≡ usefulNode room places v ds) →
+          length (room .nodes) ≡ pick (useful room places v d) d (usefulNode room places v ds)
+      go true e l h later = absurd (omega arith)
+      go false e l h later = rw (useful-is room places v d, e, and-false (away room places v)) (later h)
+
+  useful-none : ((d : ℕ) → useful room places v d ≡ false) → (ds : List ℕ) → length (room .nodes) ≡ usefulNode room places v ds
+  unfolding usefulNode
+  useful-none n [] = refl
+  useful-none n (d ∷ ds) = rw (n d) (useful-none n ds)
+
+  pub useful-home : away room places v ≡ false → length (room .nodes) ≡ usefulNode room places v (nodesIn room)
+  useful-home a = useful-none (λ d. useful-is room places v d ∙ rw a) (nodesIn room)
+
+  pub useful-nowhere : (d : ℕ) → d ≡ pivotNode room places v (nodesIn room) → length (room .nodes) ≤ d → length (room .nodes) ≡ usefulNode room places v (nodesIn room)
+  useful-nowhere d e h = none-aside (nodesIn room) (nodes-below room) (rw (← e) h)
+
+  module _ (len : length places ≡ length (room .vms)) (none : (u : ℕ) → canGo room places u ≡ false) (d : ℕ) (then : Placement) (ok : Bool)
+      (at : d ≡ pivotNode room places v (nodesIn room)) (m : then ≡ set places v d) (c : ok ≡ comesTo room then v (placeOf places v) (vmsIn room))
+      (a : away room places v ≡ true) (h : d < length (room .nodes)) where
+    -- the pivot to the node found tells of the others
+    helps-as : (e : ℕ) → soundStep room places (moving v e ∷ []) ≡ true → otherGoes room (after places (moving v e ∷ [])) v ≡ ok
+    unfolding after
+    helps-as e s =
+        same-help room places v len none e d s (pivot-node-sound d at h) ∙ comes-is room places v none d ∙
+        ap (λ (p : Placement). comesTo room p v (placeOf places v) (vmsIn room)) (sym m) ∙ sym c
+
+    useful-as : (e : ℕ) → useful room places v e ≡ (aside room places v e && ok)
+    unfolding aside
+    useful-as e =
+        useful-is room places v e ∙ rw a (given (aside room places v e) (otherGoes room (after places (moving v e ∷ [])) v)
+        (λ s. helps-as e (and-right (not (eqb e (placeOf (targetOf room) v))) (soundStep room places (moving v e ∷ [])) s)))
+      where
+        given : (b g : Bool) → (b ≡ true → g ≡ ok) → (b && g) ≡ (b && ok)
+        given true g e = e refl
+        given false g e = refl
+
+    pub useful-found : ok ≡ true → d ≡ usefulNode room places v (nodesIn room)
+    useful-found o = at ∙ first-aside (λ e. useful-as e ∙ rw o (and-true (aside room places v e))) (nodesIn room)
+
+    pub useful-not : ok ≡ false → length (room .nodes) ≡ usefulNode room places v (nodesIn room)
+    useful-not o = useful-none (λ e. useful-as e ∙ rw o (and-false (aside room places v e))) (nodesIn room)

@@ -1,0 +1,231 @@
+-- Laws on the pass that makes the direct step: the array of destinations and the sums, VM by VM.
+use Prim.Native.Nat.{ℕ, zero, suc, _+_, _-_, _*_, _≤_, _<_, _^_}
+use mathlib.Core.Bool.{Bool, true, false, not, _&&_, and-false}
+use mathlib.Core.List.{List, [], _∷_, _++_}
+use mathlib.Core.Logic.{by-cases}
+use mathlib.Core.Path.{_≡_, refl, sym, ap, ap₂, _∙_}
+use native.Mathlib.Decide.{ℕ-discrete}
+use native.Mathlib.Nat.{sub-zero}
+use native.Mathlib.Numerals.{add-one}
+use native.Mathlib.Omega.{arith}
+use lib.ListN.{length, getD, set, replicate, length-set}
+use lib.Seq.{set-getD, getD-set-same, getD-set-other}
+use lib.Dec.{ltb, eqb}
+use borrow.Author.Tests.{lt-ltb, ltb-true, ne-eqb, eqb-false, not-true}
+use mir.Syntax.{w64}
+use mir.Val.{Fits}
+use Rattle.records.specs.Base.{pick, all}
+use Rattle.records.specs.Room.{Room, roomOf, vmOf, nodeCount, vmCount, clusterCheck}
+use Rattle.records.specs.Plan.{Move, Step}
+use Rattle.records.specs.declared.faults.ClusterCheck.the-variants.{Whole}
+use Rattle.records.proofs.Laws.Bools.{and-left, and-right, and-both}
+use Rattle.records.proofs.Laws.Cluster.{nodes-most, vms-most, vms-count}
+use Rattle.rules.specs.Moments.{Placement, placeOf, targetOf, emptyTally, withVm, tallyAt, firstMoment, allRunning}
+use Rattle.rules.specs.Rules.{from, named, soundStep}
+use Rattle.rules.specs.Inner.{NeedOf, held, Placed, destsFrom, busyFrom, Loads}
+use Rattle.rules.specs.declared.tally.Need.{Need}
+use Rattle.rules.specs.declared.tally.Tally.{Tally}
+use Rattle.rules.proofs.Laws.Adding.{joins, Joins, joins-tests, empty-sound, all-snoc, tally-there, tally-else}
+use Rattle.rules.proofs.Laws.Fit.{held-at, running-is}
+use Rattle.rules.proofs.Laws.Places.{target-at}
+use Rattle.rules.proofs.Laws.Sound.{sound-named, all-more}
+use Rattle.planner.specs.Picks.{moving, direct, away, joined, joinedAll, directStep, vmsIn}
+use Rattle.planner.specs.Inner.{Light, joinsIn, goalOf}
+use Rattle.planner.proofs.Laws.Joining.{with-is, dests-longer, dests-above, joins-is, longer-sound}
+
+-- before VM v: the step of the VMs below it, its destinations and its sums, and what is still to be joined
+pub record Directing (s places dests : List ℕ) (v : ℕ) (sums : List Tally) : Type 0 where
+  pub step : Step
+  pub array : dests ≡ destsFrom step
+  pub sound : soundStep (roomOf s) (held s places) step ≡ true
+  pub below : all (λ move. ltb (move .vm) v) step ≡ true
+  pub left : joinedAll (roomOf s) (held s places) step (from v (vmCount s - v)) ≡ directStep (roomOf s) (held s places)
+  pub size : length sums ≡ 65
+  pub each : (d : ℕ) → d < 64 → getD sums d emptyTally ≡ tallyAt (roomOf s) d (allRunning (firstMoment (roomOf s) (held s places) step))
+  pub memory-most : (d : ℕ) → getD sums d emptyTally .memory ≤ (vmCount s + v) * 16777216
+  pub cpu-most : (d : ℕ) → getD sums d emptyTally .cpu ≤ (vmCount s + v) * 65536
+
+-- ---- the start: nobody joined, all VMs at rest
+
+no-moves : (s places : List ℕ) → named (roomOf s) (held s places) 0 [] ≡ true
+unfolding named
+no-moves s places = refl
+
+dests-none : destsFrom [] ≡ replicate 256 64
+unfolding destsFrom
+dests-none = refl
+
+-- the sums at rest are the tallies of the step without moves
+pub rest-tally : (s places dests : List ℕ) (sums : List Tally) (d : ℕ) → dests ≡ replicate 256 64 → Loads s places dests sums → clusterCheck s ≡ Whole → d < 64 →
+    getD sums d emptyTally ≡ tallyAt (roomOf s) d (allRunning (firstMoment (roomOf s) (held s places) []))
+rest-tally s places dests sums d e l w h =
+    l .each d h ∙ ap (λ (x : List ℕ). tallyAt (roomOf s) d (busyFrom places x 0 (vmCount s))) (e ∙ sym dests-none) ∙
+    ap (tallyAt (roomOf s) d) (running-is s places [] w (no-moves s places))
+
+pub directing-start : (s places dests : List ℕ) (sums : List Tally) → dests ≡ replicate 256 64 → Loads s places dests sums → clusterCheck s ≡ Whole →
+    Directing s places dests 0 sums
+unfolding directStep all
+directing-start s places dests sums e l w =
+    let z : vmCount s + 0 ≡ vmCount s = omega arith in
+    record {
+      step = [];
+      array = e ∙ sym dests-none;
+      sound = empty-sound (roomOf s) (held s places);
+      below = refl;
+      left = rw (sub-zero (vmCount s), vms-count s);
+      size = l .size;
+      each = λ d h. rest-tally s places dests sums d e l w h;
+      memory-most = λ d. rw z (l .memory-most d);
+      cpu-most = λ d. rw z (l .cpu-most d);
+    }
+
+-- ---- one VM
+
+left-cons : (n v : ℕ) → v < n → from v (n - v) ≡ v ∷ from (v + 1) (n - (v + 1))
+unfolding from
+left-cons n v h = let e : n - v ≡ suc (n - suc v) = omega arith in rw (e, add-one)
+
+-- one sum replaced
+module _ (sums : List Tally) (t : ℕ) (sum : Tally) (z : length sums ≡ 65) (h : t < 65) where
+  sum-at : getD (set sums t sum) t emptyTally ≡ sum
+  sum-at = getD-set-same sums t sum emptyTally (rw z h)
+
+  sum-most : (f : Tally → ℕ) (more less : ℕ) → less ≤ more → f sum ≤ more → ((d : ℕ) → f (getD sums d emptyTally) ≤ less) → (d : ℕ) → f (getD (set sums t sum) d emptyTally) ≤ more
+  sum-most f more less l m e d =
+      by-cases (ℕ-discrete d t)
+      (λ q. rw (ap (λ (k : ℕ). getD (set sums t sum) k emptyTally) q ∙ sum-at) m)
+      (λ q. rw (getD-set-other sums t d sum emptyTally q) (let b = e d in omega arith))
+
+pub directing-light : (s places dests : List ℕ) (v : ℕ) (sums : List Tally) → Directing s places dests v sums → clusterCheck s ≡ Whole → v < vmCount s → (d : ℕ) →
+    Light (getD sums d emptyTally)
+directing-light s places dests v sums inv w h d =
+    let m = vms-most s w in let a = inv .memory-most d in let b = inv .cpu-most d in record { memory = omega arith; cpu = omega arith }
+
+module _ (s places dests : List ℕ) (v d to : ℕ) (sums : List Tally) (inv : Directing s places dests v sums) (w : clusterCheck s ≡ Whole) (h : v < vmCount s)
+    (e : d ≡ vmOf (roomOf s) v .target) (n : d < nodeCount s) (g : to ≡ goalOf s places dests (getD sums d emptyTally) v) where
+  target-is : placeOf (targetOf (roomOf s)) v ≡ d
+  target-is = target-at (roomOf s) v ∙ sym e
+
+  d-low : d < 64
+  d-low = let m = nodes-most s w in omega arith
+
+  tally-is : getD sums d emptyTally ≡ tallyAt (roomOf s) d (allRunning (firstMoment (roomOf s) (held s places) (inv .step)))
+  tally-is = inv .each d d-low
+
+  -- the whole step is sound with the move exactly if the move joins
+  test-is : soundStep (roomOf s) (held s places) (inv .step ++ (moving v d ∷ [])) ≡ joinsIn s places dests (getD sums d emptyTally) v d
+  test-is = longer-sound s places dests (inv .step) (getD sums d emptyTally) v d w (inv .array) (inv .sound) tally-is h n (inv .below)
+
+  joined-is : joined (roomOf s) (held s places) (inv .step) v ≡
+      pick (not (eqb (placeOf (held s places) v) d) && soundStep (roomOf s) (held s places) (inv .step ++ (moving v d ∷ []))) (inv .step ++ (moving v d ∷ [])) (inv .step)
+  unfolding joined away
+  joined-is = rw target-is
+
+  goal-is : (b : Bool) → joinsIn s places dests (getD sums d emptyTally) v d ≡ b → to ≡ pick b d 64
+  unfolding goalOf
+  goal-is b q = g ∙ rw (← e, q)
+
+  pub goal-low : to < 65
+  goal-low = go (joinsIn s places dests (getD sums d emptyTally) v d) refl
+    where
+      go : (b : Bool) → joinsIn s places dests (getD sums d emptyTally) v d ≡ b → to < 65
+      go true q = let k : to ≡ d = goal-is true q in let l = d-low in omega arith
+      go false q = let k : to ≡ 64 = goal-is false q in omega arith
+
+  pub goal-offset : Fits w64 (to * 16)
+  goal-offset = let l = goal-low in record { fits = omega arith }
+
+  next-left : (step : Step) → joined (roomOf s) (held s places) (inv .step) v ≡ step →
+      joinedAll (roomOf s) (held s places) step (from (v + 1) (vmCount s - (v + 1))) ≡ directStep (roomOf s) (held s places)
+  unfolding joinedAll
+  next-left step q = rw (← q) (rw (left-cons (vmCount s) v h) at (inv .left))
+
+  below-more : all (λ move. ltb (move .vm) (v + 1)) (inv .step) ≡ true
+  below-more =
+      all-more (λ move. ltb (move .vm) v) (λ move. ltb (move .vm) (v + 1))
+      (λ move q. let k = ltb-true (move .vm) v q in lt-ltb (move .vm) (v + 1) (omega arith)) (inv .step) (inv .below)
+
+  module _ (need : Need) (sum : Tally) (k : NeedOf (roomOf s) v need)
+      (z : sum ≡ record { memory = getD sums to emptyTally .memory + need .memory; cpu = getD sums to emptyTally .cpu + need .cpu }) where
+    more-memory : (i : ℕ) → getD (set sums to sum) i emptyTally .memory ≤ (vmCount s + (v + 1)) * 16777216
+    more-memory =
+        let a = inv .memory-most to in let b = k .memory-most in let q = ap (λ (r : Tally). r .memory) z in
+        sum-most sums to sum (inv .size) goal-low (λ (r : Tally). r .memory) ((vmCount s + (v + 1)) * 16777216) ((vmCount s + v) * 16777216) (omega arith) (omega arith) (inv .memory-most)
+
+    more-cpu : (i : ℕ) → getD (set sums to sum) i emptyTally .cpu ≤ (vmCount s + (v + 1)) * 65536
+    more-cpu =
+        let a = inv .cpu-most to in let b = k .cpu-most in let q = ap (λ (r : Tally). r .cpu) z in
+        sum-most sums to sum (inv .size) goal-low (λ (r : Tally). r .cpu) ((vmCount s + (v + 1)) * 65536) ((vmCount s + v) * 65536) (omega arith) (omega arith) (inv .cpu-most)
+
+    -- it joins
+    goes : joinsIn s places dests (getD sums d emptyTally) v d ≡ true → Directing s places (set dests v to) (v + 1) (set sums to sum)
+    unfolding joins
+    goes q = record {
+      step = inv .step ++ (moving v d ∷ []);
+      array = ap₂ (λ (l : List ℕ) (i : ℕ). set l v i) (inv .array) to-d ∙ sym (dests-longer (inv .step) v d (inv .below));
+      sound = test-is ∙ q;
+      below = all-snoc (λ move. ltb (move .vm) (v + 1)) (inv .step) (moving v d) ∙ and-both below-more (lt-ltb v (v + 1) (omega arith));
+      left = next-left (inv .step ++ (moving v d ∷ [])) (joined-is ∙ rw (off, test-is, q));
+      size = length-set sums to sum ∙ inv .size;
+      each = each;
+      memory-most = more-memory;
+      cpu-most = more-cpu;
+    }
+      where
+        to-d : to ≡ d
+        to-d = goal-is true q
+
+        j : Joins (roomOf s) (held s places) (inv .step) v d
+        j = joins-tests (roomOf s) (held s places) (inv .step) v d
+            (sym (joins-is s places dests (inv .step) (getD sums d emptyTally) v d w (inv .array) (inv .sound) tally-is h n) ∙ q)
+
+        away-from : d ≡ placeOf (held s places) v → ⊥
+        away-from = eqb-false d (placeOf (held s places) v) (not-true (eqb d (placeOf (held s places) v)) (j .off))
+
+        off : eqb (placeOf (held s places) v) d ≡ false
+        off = ne-eqb (placeOf (held s places) v) d (λ p. away-from (sym p))
+
+        each : (i : ℕ) → i < 64 → getD (set sums to sum) i emptyTally ≡ tallyAt (roomOf s) i (allRunning (firstMoment (roomOf s) (held s places) (inv .step ++ (moving v d ∷ []))))
+        each i l =
+            by-cases (ℕ-discrete i d)
+            (λ p. rw p
+            (ap (λ (m : ℕ). getD (set sums m sum) d emptyTally) to-d ∙ getD-set-same sums d sum emptyTally (rw (inv .size) (let b = d-low in omega arith)) ∙
+            with-is (roomOf s) v need (getD sums to emptyTally) sum z k ∙
+            ap (λ (r : Tally). withVm r (vmOf (roomOf s) v)) (ap (λ (m : ℕ). getD sums m emptyTally) to-d ∙ inv .each d d-low) ∙
+            sym (tally-there (roomOf s) (held s places) (inv .step) v d (inv .below) (j .vm-there) away-from)))
+            (λ p. getD-set-other sums to i sum emptyTally (λ m. p (m ∙ to-d)) ∙ inv .each i l ∙
+            sym (tally-else (roomOf s) (held s places) (inv .step) v d (inv .below) (j .vm-there) away-from i (λ m. p (sym m))))
+
+    -- it does not
+    stays : joinsIn s places dests (getD sums d emptyTally) v d ≡ false → Directing s places (set dests v to) (v + 1) (set sums to sum)
+    stays q = record {
+      step = inv .step;
+      array = ap (set dests v) (to-none ∙ sym free) ∙ set-getD dests v 0 ∙ inv .array;
+      sound = inv .sound;
+      below = below-more;
+      left = next-left (inv .step) (joined-is ∙ rw (test-is, q, and-false (not (eqb (placeOf (held s places) v) d))));
+      size = length-set sums to sum ∙ inv .size;
+      each = λ i l. getD-set-other sums to i sum emptyTally (λ m. let f = to-none in omega arith) ∙ inv .each i l;
+      memory-most = more-memory;
+      cpu-most = more-cpu;
+    }
+      where
+        to-none : to ≡ 64
+        to-none = goal-is false q
+
+        free : getD dests v 0 ≡ 64
+        free = ap (λ (l : List ℕ). getD l v 0) (inv .array) ∙ dests-above (inv .step) v (let m = vms-most s w in omega arith) (inv .below)
+
+    pub directing-turn : Directing s places (set dests v to) (v + 1) (set sums to sum)
+    directing-turn = go (joinsIn s places dests (getD sums d emptyTally) v d) refl
+      where
+        go : (b : Bool) → joinsIn s places dests (getD sums d emptyTally) v d ≡ b → Directing s places (set dests v to) (v + 1) (set sums to sum)
+        go true q = goes q
+        go false q = stays q
+
+pub directing-end : (s places dests : List ℕ) (v n : ℕ) (sums : List Tally) → Directing s places dests v sums → n ≡ vmCount s → n ≤ v →
+    dests ≡ destsFrom (directStep (roomOf s) (held s places))
+unfolding joinedAll from
+directing-end s places dests v n sums inv q h =
+    let z : vmCount s - v ≡ 0 = omega arith in
+    inv .array ∙ ap destsFrom (rw z at (inv .left))

@@ -1,0 +1,26 @@
+use Rattle.planner.proofs.Laws.Pairs.{counts-here, counts-there}
+use borrow.Author.Needs.{needs}
+use Rattle.planner.proofs.mates.counts.Statement.{statement}
+use Rattle.planner.proofs.mates.counts.Tie as tie
+use Rattle.planner.proofs.mates.counts.Reads as reads
+use Rattle.planner.proofs.mates.counts.Lts as lts
+use Rattle.rules.proofs.node_at.Reads as node-at-reads
+
+-- src/mates.rt:72:8
+node-at-requires : tie.Need-node-at-requires
+node-at-requires c κs = search needs
+
+-- src/mates.rt:73:9
+returns : tie.Need-returns
+returns c = search (needs, counts-here)
+
+-- src/mates.rt:75:5
+node-at-requires-2 : tie.Need-node-at-requires-2
+node-at-requires-2 c κs = search needs
+
+-- src/mates.rt:68:1
+returns-2 : tie.Need-returns-2
+returns-2 c = search (needs, counts-there)
+
+pub counts-spec : {M : Type 1} → statement M
+counts-spec = tie.close (tie.spec node-at-requires returns node-at-requires-2 returns-2)

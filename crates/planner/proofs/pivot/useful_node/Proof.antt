@@ -1,0 +1,106 @@
+use Rattle.rules.proofs.Laws.Turns.{set-below}
+use native.Mathlib.Omega.{arith}
+use Rattle.planner.proofs.Laws.Joining.{vm-low}
+use Rattle.planner.proofs.Laws.Lone.{place-there, useful-kept, useful-lost, useful-yes, useful-no}
+use borrow.Author.Needs.{needs}
+use Rattle.planner.proofs.pivot.useful_node.Statement.{statement}
+use Rattle.planner.proofs.pivot.useful_node.Tie as tie
+use Rattle.planner.proofs.pivot.useful_node.Reads as reads
+use Rattle.planner.proofs.pivot.useful_node.Lts as lts
+use Rattle.planner.proofs.pivot.pivot_node.Reads as pivot-node-reads
+use Rattle.planner.proofs.pivot.some_comes.Reads as some-comes-reads
+use Rattle.records.proofs.node_count.Reads as node-count-reads
+use Rattle.records.proofs.vm_target.Reads as vm-target-reads
+use Rattle.rules.proofs.node_at.Reads as node-at-reads
+
+-- src/pivot.rt:137:9
+node-count-requires : tie.Need-node-count-requires
+node-count-requires c κs = search needs
+
+-- src/pivot.rt:138:9
+node-at-requires : tie.Need-node-at-requires
+node-at-requires c κs = search (needs, vm-low)
+
+-- src/pivot.rt:139:13
+vm-target-requires : tie.Need-vm-target-requires
+vm-target-requires c κs = search needs
+
+-- src/pivot.rt:139:13
+cast-if1 : tie.Need-cast-if1
+cast-if1 c = search needs
+
+-- src/pivot.rt:140:9
+returns : tie.Need-returns
+returns c = search (needs, useful-kept)
+
+-- src/pivot.rt:142:9
+pivot-node-requires : tie.Need-pivot-node-requires
+pivot-node-requires c κs = search needs
+
+-- src/pivot.rt:144:9
+returns-2 : tie.Need-returns-2
+returns-2 c = search (needs, useful-lost)
+
+-- src/pivot.rt:147:15
+cast-then : tie.Need-cast-then
+cast-then c = search needs
+
+-- src/pivot.rt:147:5
+array-write-then : tie.Need-array-write-then
+array-write-then c = search (needs, vm-low)
+
+-- src/pivot.rt:148:8
+some-comes-requires : tie.Need-some-comes-requires
+some-comes-requires c κs =
+    let else2 = c .before in
+    let place = else2 .before .before .before .before .before in
+    let start = place .before .before .before .before in
+    let pre = start .pre in
+    (search needs, search needs, search needs, set-below _ _ _ _ (pre .3) (omega arith), place-there _ _ _ _ (place .node-at .ensures .0) (pre .3))
+
+-- src/pivot.rt:149:9
+returns-3 : tie.Need-returns-3
+returns-3 c =
+    let came = c .before in
+    let wide = came .before .before in
+    let node = wide .before in
+    let else1 = node .before .before in
+    let target = else1 .before in
+    let place = target .before in
+    let count = place .before .before in
+    let start = count .before .before in
+    let pre = start .pre in
+    useful-yes _ _ _ _ _ _ (pre .3) (count .node-count .ensures .0) (place .node-at .ensures .0) (target .vm-target .ensures .0) (pre .0) (pre .5) (else1 .if1 .left) _ (node .pivot-node .ensures) _
+    (came .some-comes .ensures) (pre .6) (wide .if2 .left) (start .good .1 .1 .1 .0 .1 .0 .1) (c .if3 .taken)
+
+-- src/pivot.rt:126:1
+returns-4 : tie.Need-returns-4
+returns-4 c =
+    let came = c .before in
+    let wide = came .before .before in
+    let node = wide .before in
+    let else1 = node .before .before in
+    let target = else1 .before in
+    let place = target .before in
+    let count = place .before .before in
+    let start = count .before .before in
+    let pre = start .pre in
+    useful-no _ _ _ _ _ _ (pre .3) (count .node-count .ensures .0) (place .node-at .ensures .0) (target .vm-target .ensures .0) (pre .0) (pre .5) (else1 .if1 .left) _ (node .pivot-node .ensures) _
+    (came .some-comes .ensures) (pre .6) (wide .if2 .left) (start .good .1 .1 .1 .0 .1 .0 .1) (c .if3 .left)
+
+pub useful-node-spec : {M : Type 1} → statement M
+useful-node-spec =
+    tie.close
+    (tie.spec
+    node-count-requires
+    node-at-requires
+    vm-target-requires
+    cast-if1
+    returns
+    pivot-node-requires
+    returns-2
+    cast-then
+    array-write-then
+    some-comes-requires
+    returns-3
+    returns-4)

@@ -1,0 +1,66 @@
+use borrow.Author.Needs.{needs}
+use Prim.Native.Nat.{_+_, _≤_, _-_}
+use mathlib.Core.Path.{_≡_}
+use lib.ListN.{length}
+use Rattle.records.specs.Plan.{movesBytes, written}
+use Rattle.planner.specs.Inner.{movesIn}
+use Rattle.planner.proofs.Laws.Moves.{put-start, put-room, put-more, put-count, put-end, count-end}
+use Rattle.planner.proofs.steps.put_moves.Statement.{statement}
+use Rattle.planner.proofs.steps.put_moves.Tie as tie
+use Rattle.planner.proofs.steps.put_moves.Reads as reads
+use Rattle.planner.proofs.steps.put_moves.Lts as lts
+use Rattle.planner.proofs.steps.put_move.Reads as put-move-reads
+
+abbrev Inv-loop : tie.InvT-loop
+Inv-loop out₀ at dests vms n₀ v₀ out n v = (v ≤ vms) × (length out ≡ length out₀) × (n ≡ length (movesIn dests 0 v)) × (out ≡ written out₀ (at + 2) (movesBytes (movesIn dests 0 v)))
+
+abbrev μ-loop : tie.MeasureT-loop
+μ-loop out₀ at dests vms n₀ v₀ out n v = vms - v
+
+-- src/steps.rt:69:5
+loop-holds : tie.Need-loop-holds Inv-loop μ-loop
+unfolding movesIn
+loop-holds c = search (needs, put-start)
+
+-- src/steps.rt:70:17
+element-copy-out-d : tie.Need-element-copy-out-d Inv-loop μ-loop
+element-copy-out-d c = search needs
+
+-- src/steps.rt:71:9
+put-move-requires : tie.Need-put-move-requires Inv-loop μ-loop
+put-move-requires c κs = search (needs, put-room)
+
+-- src/steps.rt:72:9
+add-v : tie.Need-add-v Inv-loop μ-loop
+add-v c = search needs
+
+-- src/steps.rt:69:5
+loop-less : tie.Need-loop-less Inv-loop μ-loop
+loop-less c = search needs
+
+-- src/steps.rt:69:5
+loop-again : tie.Need-loop-again Inv-loop μ-loop
+loop-again c = search (needs, put-count, put-more)
+
+-- src/steps.rt:63:1
+same-length : tie.Need-same-length Inv-loop μ-loop
+same-length c = search needs
+
+-- src/steps.rt:63:1
+returns : tie.Need-returns Inv-loop μ-loop
+returns c = search (needs, count-end, put-end)
+
+pub put-moves-spec : {M : Type 1} → statement M
+put-moves-spec =
+    tie.close
+    (tie.spec
+    Inv-loop
+    μ-loop
+    loop-holds
+    element-copy-out-d
+    put-move-requires
+    add-v
+    loop-less
+    loop-again
+    same-length
+    returns)

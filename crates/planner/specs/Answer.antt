@@ -1,0 +1,78 @@
+-- The planner's answer: a plan, or blocked, with what it wrote; or a refusal (01, "The planner" and refusals 1 to 10).
+use Prim.Native.Nat.{ℕ, _+_, _*_, _^_}
+use mathlib.Core.Bool.{Bool, true, false}
+use mathlib.Core.List.{List, [], _∷_, _++_}
+use lib.ListN.{length, take, drop}
+use lib.Dec.{ltb}
+use Rattle.records.specs.Base.{pick}
+use Rattle.records.specs.Bytes.{be32}
+use Rattle.records.specs.Room.{Room, roomOf, clusterCheck, clusterNumber}
+use Rattle.records.specs.Plan.{Step, moveTotal, planBytes}
+use Rattle.records.specs.declared.faults.ClusterCheck.{ClusterCheck}
+use Rattle.rules.specs.Moments.{currentOf}
+use Rattle.rules.specs.Rules.{targetCheck}
+use Rattle.rules.specs.Cost.{costOf}
+use Rattle.rules.specs.Verdict.{home, targetNumber}
+use Rattle.rules.specs.Promises.{afterAll}
+use Rattle.rules.specs.declared.faults.TargetCheck.{TargetCheck}
+use Rattle.planner.specs.Picks.{picked}
+use Rattle.planner.specs.declared.answer.Made.{Made}
+use Rattle.planner.specs.declared.answer.BuildFault.{BuildFault}
+use Rattle.planner.specs.declared.answer.BuildFault.the-variants.{Cluster, Target, Buffer}
+use Rattle.planner.specs.declared.answer.Answer.{Answer}
+use Rattle.planner.specs.declared.answer.Answer.the-variants.{Plan, Blocked, Refused}
+
+-- the steps for a room, from its current nodes
+unfoldable pub stepsFor : Room → List Step
+stepsFor room = picked room (currentOf room)
+
+-- their counts and their cost
+unfoldable pub madeOf : Room → List Step → Made
+madeOf room steps = record { steps = length steps; moves = moveTotal steps; cost = costOf room steps }
+
+-- nobody out of place behind the last step: a plan; else blocked
+unfoldable pub outcome : Room → List Step → Answer
+outcome room steps = pick (home room (afterAll (currentOf room) steps)) (Plan (madeOf room steps)) (Blocked (madeOf room steps))
+
+-- what each check says, and what follows if it finds nothing
+unfoldable pub onCluster : ClusterCheck → Answer → Answer
+onCluster ClusterCheck.Whole rest = rest
+onCluster (ClusterCheck.Damaged fault) rest = Refused (Cluster fault)
+
+unfoldable pub onTarget : TargetCheck → Answer → Answer
+onTarget TargetCheck.Good rest = rest
+onTarget (TargetCheck.Bad fault) rest = Refused (Target fault)
+
+-- the answer to a cluster record and a buffer of a given size: 1 to 7, 8 and 9, 10, then the outcome
+unfoldable pub answerOf : List ℕ → ℕ → Answer
+answerOf cluster size =
+    onCluster (clusterCheck cluster)
+    (onTarget (targetCheck (roomOf cluster))
+    (pick (ltb size 2051) (Refused Buffer)
+    (outcome (roomOf cluster) (stepsFor (roomOf cluster)))))
+
+-- what is then in the buffer: behind a refusal what was there; else the record of the steps at its front, and behind it what was there
+unfoldable pub bufferOf : Answer → List ℕ → List ℕ → List ℕ
+bufferOf (Refused fault) plan buffer = buffer
+bufferOf (Plan made) plan buffer = plan ++ drop (length plan) buffer
+bufferOf (Blocked made) plan buffer = plan ++ drop (length plan) buffer
+
+-- the record at the front of a buffer, as long as it says it is
+unfoldable pub frontOf : List ℕ → List ℕ
+frontOf buffer = take (be32 buffer 1) buffer
+
+-- 01's number of each refusal; its step is 0
+abbrev pub buildNumber : BuildFault → ℕ
+buildNumber (Cluster fault) = clusterNumber fault
+buildNumber (Target fault) = targetNumber fault
+buildNumber Buffer = 10
+
+-- an answer as one number: bit 63 a refusal, its number from bit 16 on; else bit 62 if blocked, the steps from bit 53 on, the moves from
+-- bit 44 on, the cost below
+abbrev pub packedMade : Made → ℕ
+packedMade made = made .steps * 2 ^ 53 + made .moves * 2 ^ 44 + made .cost
+
+abbrev pub packedAnswer : Answer → ℕ
+packedAnswer (Plan made) = packedMade made
+packedAnswer (Blocked made) = 2 ^ 62 + packedMade made
+packedAnswer (Refused fault) = 2 ^ 63 + buildNumber fault * 2 ^ 16

@@ -1,0 +1,144 @@
+-- What inner functions answer, on the way to the definitions before. Nothing here has to be believed.
+use Prim.Native.Nat.{ℕ, zero, suc, _+_, _-_, _*_, _<_, _≤_, _^_}
+use mathlib.Core.Bool.{Bool, true, false, not, _&&_}
+use mathlib.Core.List.{List, [], _∷_, _++_}
+use mathlib.Core.Path.{_≡_}
+use lib.ListN.{length, getD, set}
+use lib.Dec.{eqb}
+use Rattle.records.specs.Base.{pick, all}
+use Rattle.records.specs.Room.{Constraint, ban, fence, spread, latency, Room, roomOf, nodeOf, vmOf, vmCount, constraintOf}
+use Rattle.records.specs.Plan.{Move, Step, moveTotal, stepsBytes, planBytes, written, shaped}
+use Rattle.rules.specs.Moments.{Placement, placeOf, currentOf, targetOf, within, withVm, tallyAt, firstMoment, allRunning}
+use Rattle.rules.specs.Orders.{spreads, some, meetsMate}
+use Rattle.rules.specs.Rules.{allowed, soundStep}
+use Rattle.rules.specs.Verdict.{home}
+use Rattle.rules.specs.Promises.{afterAll}
+use Rattle.rules.specs.Inner.{held, busyFrom}
+use Rattle.rules.specs.declared.tally.Tally.{Tally}
+use Rattle.planner.specs.Picks.{moving, canGo, useful}
+use Rattle.planner.specs.Answer.{stepsFor, bufferOf}
+use Rattle.planner.specs.declared.answer.Made.{Made}
+use Rattle.planner.specs.declared.answer.Answer.{Answer}
+use Rattle.planner.specs.declared.answer.Answer.the-variants.{Plan, Blocked, Refused}
+use Rattle.planner.specs.declared.steps.Trail.{Trail}
+
+-- ---- pairs of VMs that one spread names, as a table of 256 marks a VM
+
+-- VM v marked with each VM of a list
+unfoldable pub pairRow : List ℕ → ℕ → List ℕ → List ℕ
+pairRow table v [] = table
+pairRow table v (w ∷ ws) = pairRow (set table (v * 256 + w) 1) v ws
+
+-- each of the last VMs marked with each of a list
+unfoldable pub pairRows : List ℕ → List ℕ → List ℕ → List ℕ
+pairRows table vms [] = table
+pairRows table vms (v ∷ vs) = pairRows (pairRow table v vms) vms vs
+
+unfoldable pub paired : List ℕ → Constraint → List ℕ
+paired table (ban vms nodes) = table
+paired table (fence vms nodes) = table
+paired table (spread vms) = pairRows table vms vms
+paired table (latency vms groups) = table
+
+unfoldable pub pairedAll : List ℕ → List (List ℕ) → List ℕ
+pairedAll table [] = table
+pairedAll table (p ∷ ps) = pairedAll (paired table (constraintOf p)) ps
+
+-- a whole table with no mark
+pub record Blank (table : List ℕ) : Type 0 where
+  pub size : length table ≡ 65536
+  pub each : (i : ℕ) → getD table i 0 ≡ 0
+
+-- the table tells which two VMs one spread names
+pub record Pairs (s table : List ℕ) : Type 0 where
+  pub each : (v w : ℕ) → v < vmCount s → w < vmCount s → getD table (v * 256 + w) 0 ≡ pick (some (spreads v w) (roomOf s .constraints)) 1 0
+
+-- ---- a move beside the moves of an array of destinations
+
+-- a tally that a VM can be added to
+pub record Light (tally : Tally) : Type 0 where
+  pub memory : tally .memory < 2 ^ 40
+  pub cpu : tally .cpu < 2 ^ 40
+
+-- VM v may go to node d, whose tally with those moves running is given
+unfoldable pub joinsIn : List ℕ → List ℕ → List ℕ → Tally → ℕ → ℕ → Bool
+joinsIn s places dests here v d =
+    not (eqb (getD places v 0) d) &&
+    (allowed (roomOf s) v d &&
+    (within (nodeOf (roomOf s) d) (withVm here (vmOf (roomOf s) v)) &&
+    not (meetsMate (roomOf s) (busyFrom places dests 0 (vmCount s)) v d)))
+
+-- where VM v goes: to its target if it may, else nowhere
+unfoldable pub goalOf : List ℕ → List ℕ → List ℕ → Tally → ℕ → ℕ
+goalOf s places dests here v = pick (joinsIn s places dests here v (vmOf (roomOf s) v .target)) (vmOf (roomOf s) v .target) 64
+
+-- ---- pivots
+
+-- the tally of node d with all VMs at rest
+pub record Rested (s places : List ℕ) (d : ℕ) (here : Tally) : Type 0 where
+  pub is : here ≡ tallyAt (roomOf s) d (allRunning (firstMoment (roomOf s) (held s places) []))
+  pub light : Light here
+
+-- VM v may go alone to node d, not its target
+unfoldable pub aside : Room → Placement → ℕ → ℕ → Bool
+aside room places v d = not (eqb d (placeOf (targetOf room) v)) && soundStep room places (moving v d ∷ [])
+
+-- the first of the nodes where it may; the number of nodes if there is none
+unfoldable pub pivotNode : Room → Placement → ℕ → List ℕ → ℕ
+pivotNode room places v [] = length (room .nodes)
+pivotNode room places v (d ∷ ds) = pick (aside room places v d) d (pivotNode room places v ds)
+
+-- VM u, which is not v, has a sound direct move to node p
+unfoldable pub comer : Room → Placement → ℕ → ℕ → ℕ → Bool
+comer room places v p u = eqb (placeOf (targetOf room) u) p && (not (eqb u v) && canGo room places u)
+
+-- one of the VMs is such
+unfoldable pub comesTo : Room → Placement → ℕ → ℕ → List ℕ → Bool
+comesTo room places v p us = some (comer room places v p) us
+
+-- the first of the nodes to which a pivot of VM v is useful; the number of nodes if there is none
+unfoldable pub usefulNode : Room → Placement → ℕ → List ℕ → ℕ
+usefulNode room places v [] = length (room .nodes)
+usefulNode room places v (d ∷ ds) = pick (useful room places v d) d (usefulNode room places v ds)
+
+-- ---- a step as an array of destinations
+
+-- VM v's move to a destination; 64 is none
+unfoldable pub moveIn : ℕ → ℕ → Step
+moveIn v d = pick (eqb d 64) [] (moving v d ∷ [])
+
+-- the moves of n VMs from v on
+unfoldable pub movesIn : List ℕ → ℕ → ℕ → Step
+movesIn dests v zero = []
+movesIn dests v (suc n) = moveIn v (getD dests v 0) ++ movesIn dests (suc v) n
+
+-- where a VM is behind a step
+unfoldable pub settled : ℕ → ℕ → ℕ
+settled d p = pick (eqb d 64) p d
+
+-- ---- the steps written
+
+-- the steps of the planner stand in the buffer behind the place of the header, and nothing else has changed
+pub record Trailed (s before after : List ℕ) (r : Trail) : Type 0 where
+  pub buffer : after ≡ written before 7 (stepsBytes (stepsFor (roomOf s)))
+  pub end : r .end ≡ 7 + length (stepsBytes (stepsFor (roomOf s)))
+  pub steps : r .steps ≡ length (stepsFor (roomOf s))
+  pub moves : r .moves ≡ moveTotal (stepsFor (roomOf s))
+  pub home : r .home ≡ home (roomOf s) (afterAll (currentOf (roomOf s)) (stepsFor (roomOf s)))
+  pub shaped : shaped (stepsFor (roomOf s)) ≡ true
+  pub steps-most : length (stepsFor (roomOf s)) ≤ 511
+  pub moves-most : moveTotal (stepsFor (roomOf s)) ≤ 511
+
+-- ---- the answer
+
+-- an answer's counts and cost have room in the number returned
+abbrev pub Packs : Answer → Type 0
+Packs (Plan made) = (made .steps < 2 ^ 9) × (made .moves < 2 ^ 9) × (made .cost < 2 ^ 43)
+Packs (Blocked made) = (made .steps < 2 ^ 9) × (made .moves < 2 ^ 9) × (made .cost < 2 ^ 43)
+Packs (Refused fault) = Unit
+
+-- an answer is the one defined, with the buffer that goes with it
+pub record Answers (s : List ℕ) (answer : Answer) (before after : List ℕ) (r : Answer) : Type 0 where
+  pub is : r ≡ answer
+  pub buffer : after ≡ bufferOf answer (planBytes (stepsFor (roomOf s))) before
+  pub packs : Packs r

@@ -1,0 +1,57 @@
+// What the planner answers, and its packing into one number.
+use records::ClusterFault;
+use rules::TargetFault;
+ghost use mathlib.Core.Path.{_≡_};
+ghost use Prim.Native.Nat.{_<_, _^_};
+ghost use Rattle.planner.specs.Answer.{buildNumber, packedMade, packedAnswer};
+ghost use Rattle.planner.specs.Inner.{Packs};
+
+// The record written: its steps, its moves and its cost.
+pub struct Made {
+    pub steps: u64,
+    pub moves: u64,
+    pub cost: u64,
+}
+
+// A fault of the cluster record, of its target, or a buffer that is too short.
+pub enum BuildFault {
+    Cluster(ClusterFault),
+    Target(TargetFault),
+    Buffer,
+}
+
+pub enum Answer {
+    Plan(Made),
+    Blocked(Made),
+    Refused(BuildFault),
+}
+
+// Document 01's number of a refusal.
+pub fn build_number(f: BuildFault) -> u64
+    ensures { λ r. ⌜ (r ≡ buildNumber f) × (r < 256) ⌝ }
+{
+    match f {
+        BuildFault::Cluster(c) => records::cluster_number(c),
+        BuildFault::Target(t) => rules::target_number(t),
+        BuildFault::Buffer => 10,
+    }
+}
+
+fn pack_made(m: Made) -> u64
+    requires { ⌜ (m .steps < 2 ^ 9) × (m .moves < 2 ^ 9) × (m .cost < 2 ^ 43) ⌝ }
+    ensures { λ r. ⌜ (r ≡ packedMade m) × (r < 2 ^ 62) ⌝ }
+{
+    m.steps * 9007199254740992 + m.moves * 17592186044416 + m.cost
+}
+
+// An answer as one number.
+pub fn pack(a: Answer) -> u64
+    requires { ⌜ Packs a ⌝ }
+    ensures { λ r. ⌜ r ≡ packedAnswer a ⌝ }
+{
+    match a {
+        Answer::Plan(m) => pack_made(m),
+        Answer::Blocked(m) => 4611686018427387904 + pack_made(m),
+        Answer::Refused(f) => 9223372036854775808 + build_number(f) * 65536,
+    }
+}

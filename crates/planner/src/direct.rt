@@ -1,0 +1,59 @@
+// The direct step, as an array of destinations: 64 where a VM has no move.
+use crate::join::may_join;
+use rules::Tally;
+ghost use mathlib.Core.Path.{_≡_};
+ghost use Prim.Native.Nat.{_<_};
+ghost use Rattle.records.specs.Base.{pick};
+ghost use Rattle.records.specs.Room.{roomOf, vmCount, clusterCheck};
+ghost use Rattle.records.specs.declared.faults.ClusterCheck.{ClusterCheck};
+ghost use Rattle.rules.specs.Moments.{placeOf, targetOf};
+ghost use Rattle.rules.specs.Inner.{held, Allows, Placed, destsFrom};
+ghost use Rattle.planner.specs.Picks.{directStep};
+ghost use Rattle.planner.specs.Inner.{Pairs, Light, joinsIn, goalOf};
+
+// Where VM v goes in the step: to its target if it may join the moves before it, `here` being the target's tally with those running.
+fn goal(
+    cluster: &[u8],
+    allow: &[u8; 16384],
+    pairs: &[u8; 65536],
+    places: &[u8; 256],
+    dests: &[u8; 256],
+    here: Tally,
+    v: usize,
+) -> u8
+    requires { ⌜ (clusterCheck (now cluster) ≡ ClusterCheck.Whole) × Allows (now cluster) (now allow) × Pairs (now cluster) (now pairs) × (v < vmCount (now cluster)) × Light here ⌝ }
+    ensures { λ r. ⌜ r ≡ goalOf (now (cluster .entry)) (now (places .entry)) (now (dests .entry)) here v ⌝ }
+{
+    let to = records::vm_target(cluster, v);
+    if may_join(cluster, allow, pairs, places, dests, here, v, to as usize) {
+        return to;
+    }
+    64
+}
+
+// The VMs in turn, each sent to its target if that keeps the step sound. The sums are those with every move so far running.
+pub fn direct_step(
+    cluster: &[u8],
+    allow: &[u8; 16384],
+    pairs: &[u8; 65536],
+    places: &[u8; 256],
+) -> [u8; 256]
+    requires { ⌜ (clusterCheck (now cluster) ≡ ClusterCheck.Whole) × Allows (now cluster) (now allow) × Pairs (now cluster) (now pairs) × Placed (now cluster) (now places) ⌝ }
+    ensures { λ r. ⌜ r ≡ destsFrom (directStep (roomOf (now (cluster .entry))) (held (now (cluster .entry)) (now (places .entry)))) ⌝ }
+{
+    let n = records::vm_count(cluster);
+    let mut dests = [64u8; 256];
+    let mut sums = rules::loads(cluster, places, &dests);
+    let mut v: usize = 0;
+    while v < n {
+        let d = records::vm_target(cluster, v) as usize;
+        let here = sums[d];
+        let to = goal(cluster, allow, pairs, places, &dests, here, v);
+        let t = to as usize;
+        let there = sums[t];
+        sums[t] = there.with(rules::need_of(cluster, v));
+        dests[v] = to;
+        v += 1;
+    }
+    dests
+}

@@ -1,0 +1,44 @@
+// Whether a move can be added to the moves of a step: its own test, at its destination only.
+use crate::mates::meets;
+use rules::Tally;
+ghost use mathlib.Core.Path.{_≡_};
+ghost use Prim.Native.Nat.{_<_};
+ghost use Rattle.records.specs.Room.{roomOf, nodeOf, vmOf, nodeCount, vmCount, clusterCheck};
+ghost use Rattle.records.specs.declared.faults.ClusterCheck.{ClusterCheck};
+ghost use Rattle.rules.specs.Moments.{within, withVm};
+ghost use Rattle.rules.specs.Inner.{Allows};
+ghost use Rattle.planner.specs.Inner.{Pairs, joinsIn, Light};
+
+// Whether a tally with VM v added is within what node d has.
+fn fits_with(cluster: &[u8], here: Tally, v: usize, d: usize) -> bool
+    requires { ⌜ (clusterCheck (now cluster) ≡ ClusterCheck.Whole) × (v < vmCount (now cluster)) × (d < nodeCount (now cluster)) × Light here ⌝ }
+    ensures { λ r. ⌜ r ≡ within (nodeOf (roomOf (now (cluster .entry))) d) (withVm here (vmOf (roomOf (now (cluster .entry))) v)) ⌝ }
+{
+    rules::within_node(cluster, d, here.with(rules::need_of(cluster, v)))
+}
+
+// Whether VM v may go to node d beside the moves of an array of destinations, `here` being the tally of d with those moves running.
+pub fn may_join(
+    cluster: &[u8],
+    allow: &[u8; 16384],
+    pairs: &[u8; 65536],
+    places: &[u8; 256],
+    dests: &[u8; 256],
+    here: Tally,
+    v: usize,
+    d: usize,
+) -> bool
+    requires { ⌜ (clusterCheck (now cluster) ≡ ClusterCheck.Whole) × Allows (now cluster) (now allow) × Pairs (now cluster) (now pairs) × (v < vmCount (now cluster)) × (d < nodeCount (now cluster)) × Light here ⌝ }
+    ensures { λ r. ⌜ r ≡ joinsIn (now (cluster .entry)) (now (places .entry)) (now (dests .entry)) here v d ⌝ }
+{
+    if rules::node_at(places, v) == d {
+        return false;
+    }
+    if allow[v * 64 + d] == 0 {
+        return false;
+    }
+    if !fits_with(cluster, here, v, d) {
+        return false;
+    }
+    !meets(cluster, pairs, places, dests, v, d)
+}

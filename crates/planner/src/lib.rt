@@ -1,0 +1,25 @@
+// The planner: a plan that brings every VM to its target, or how far it gets.
+mod answer;
+mod direct;
+mod join;
+mod mates;
+mod pivot;
+mod plan;
+mod steps;
+
+ghost use Rattle.planner.specs.Promises.{Built};
+
+// What the planner answers.
+pub use answer::Answer;
+pub use answer::BuildFault;
+pub use answer::Made;
+pub use answer::build_number;
+pub use plan::answer_to;
+
+// The plan for a cluster, written as a record at the front of the buffer, on any two byte strings. `Built` lists what is promised.
+#[no_mangle]
+pub extern "C" fn build(cluster: &[u8], out: &mut [u8]) -> u64
+    ensures { λ r. ⌜ Built (now (cluster .entry)) (now (out .entry)) (now (out .exit)) r ⌝ }
+{
+    answer::pack(answer_to(cluster, out))
+}

@@ -1,0 +1,178 @@
+// The pivot, as an array of destinations with one move, none if no pivot is useful. It is looked for only where no direct move is sound:
+// there, whether a pivot helps does not depend on its node, so the lowest sound node of a VM is tried and no other.
+use crate::join::may_join;
+use rules::Tally;
+ghost use mathlib.Core.Path.{_≡_};
+ghost use mathlib.Core.List.{[], _∷_};
+ghost use Prim.Native.Nat.{_<_};
+ghost use lib.ListN.{replicate};
+ghost use Rattle.records.specs.Room.{roomOf, vmCount, nodeCount, clusterCheck};
+ghost use Rattle.records.specs.declared.faults.ClusterCheck.{ClusterCheck};
+ghost use Rattle.rules.specs.Rules.{soundStep};
+ghost use Rattle.rules.specs.Inner.{held, Allows, Placed, Loads, destsFrom};
+ghost use Rattle.planner.specs.Picks.{moving, directStep, pivotStep, vmsIn, nodesIn};
+ghost use Rattle.planner.specs.Inner.{Pairs, Rested, aside, pivotNode, comer, comesTo, usefulNode};
+
+// Whether moving VM v alone to node d is a sound step, `here` being the tally of d with all VMs at rest.
+fn goes_alone(
+    cluster: &[u8],
+    allow: &[u8; 16384],
+    pairs: &[u8; 65536],
+    places: &[u8; 256],
+    here: Tally,
+    v: usize,
+    d: usize,
+) -> bool
+    requires { ⌜ (clusterCheck (now cluster) ≡ ClusterCheck.Whole) × Allows (now cluster) (now allow) × Pairs (now cluster) (now pairs) × (v < vmCount (now cluster)) × (d < nodeCount (now cluster)) × Rested (now cluster) (now places) d here ⌝ }
+    ensures { λ r. ⌜ r ≡ soundStep (roomOf (now (cluster .entry))) (held (now (cluster .entry)) (now (places .entry))) (moving v d ∷ []) ⌝ }
+{
+    let rest = [64u8; 256];
+    may_join(cluster, allow, pairs, places, &rest, here, v, d)
+}
+
+// The same, but not to its target.
+fn goes_aside(
+    cluster: &[u8],
+    allow: &[u8; 16384],
+    pairs: &[u8; 65536],
+    places: &[u8; 256],
+    here: Tally,
+    v: usize,
+    d: usize,
+) -> bool
+    requires { ⌜ (clusterCheck (now cluster) ≡ ClusterCheck.Whole) × Allows (now cluster) (now allow) × Pairs (now cluster) (now pairs) × (v < vmCount (now cluster)) × (d < nodeCount (now cluster)) × Rested (now cluster) (now places) d here ⌝ }
+    ensures { λ r. ⌜ r ≡ aside (roomOf (now (cluster .entry))) (held (now (cluster .entry)) (now (places .entry))) v d ⌝ }
+{
+    if records::vm_target(cluster, v) as usize == d {
+        return false;
+    }
+    goes_alone(cluster, allow, pairs, places, here, v, d)
+}
+
+// The lowest node that VM v may go to alone, its target left out; the number of nodes if there is none.
+fn pivot_node(
+    cluster: &[u8],
+    allow: &[u8; 16384],
+    pairs: &[u8; 65536],
+    places: &[u8; 256],
+    sums: [Tally; 65],
+    v: usize,
+) -> usize
+    requires { ⌜ (clusterCheck (now cluster) ≡ ClusterCheck.Whole) × Allows (now cluster) (now allow) × Pairs (now cluster) (now pairs) × Loads (now cluster) (now places) (replicate 256 64) sums × (v < vmCount (now cluster)) ⌝ }
+    ensures { λ r. ⌜ r ≡ pivotNode (roomOf (now (cluster .entry))) (held (now (cluster .entry)) (now (places .entry))) v (nodesIn (roomOf (now (cluster .entry)))) ⌝ }
+{
+    let n = records::node_count(cluster);
+    let mut d: usize = 0;
+    while d < n {
+        let here = sums[d];
+        if goes_aside(cluster, allow, pairs, places, here, v, d) {
+            return d;
+        }
+        d += 1;
+    }
+    n
+}
+
+// Whether VM u is not v, is wanted on node p, and may go there alone.
+fn comes(
+    cluster: &[u8],
+    allow: &[u8; 16384],
+    pairs: &[u8; 65536],
+    places: &[u8; 256],
+    here: Tally,
+    v: usize,
+    p: usize,
+    u: usize,
+) -> bool
+    requires { ⌜ (clusterCheck (now cluster) ≡ ClusterCheck.Whole) × Allows (now cluster) (now allow) × Pairs (now cluster) (now pairs) × (u < vmCount (now cluster)) × (p < nodeCount (now cluster)) × Rested (now cluster) (now places) p here ⌝ }
+    ensures { λ r. ⌜ r ≡ comer (roomOf (now (cluster .entry))) (held (now (cluster .entry)) (now (places .entry))) v p u ⌝ }
+{
+    if records::vm_target(cluster, u) as usize != p {
+        return false;
+    }
+    if u == v {
+        return false;
+    }
+    goes_alone(cluster, allow, pairs, places, here, u, p)
+}
+
+// Whether some VM other than v may go alone to node p, its target.
+fn some_comes(
+    cluster: &[u8],
+    allow: &[u8; 16384],
+    pairs: &[u8; 65536],
+    places: &[u8; 256],
+    v: usize,
+    p: usize,
+) -> bool
+    requires { ⌜ (clusterCheck (now cluster) ≡ ClusterCheck.Whole) × Allows (now cluster) (now allow) × Pairs (now cluster) (now pairs) × Placed (now cluster) (now places) × (p < nodeCount (now cluster)) ⌝ }
+    ensures { λ r. ⌜ r ≡ comesTo (roomOf (now (cluster .entry))) (held (now (cluster .entry)) (now (places .entry))) v p (vmsIn (roomOf (now (cluster .entry)))) ⌝ }
+{
+    let n = records::vm_count(cluster);
+    let rest = [64u8; 256];
+    let sums = rules::loads(cluster, places, &rest);
+    let here = sums[p];
+    let mut u: usize = 0;
+    while u < n {
+        if comes(cluster, allow, pairs, places, here, v, p, u) {
+            return true;
+        }
+        u += 1;
+    }
+    false
+}
+
+// The node of VM v's useful pivot; the number of nodes if it has none.
+fn useful_node(
+    cluster: &[u8],
+    allow: &[u8; 16384],
+    pairs: &[u8; 65536],
+    places: [u8; 256],
+    sums: [Tally; 65],
+    v: usize,
+) -> usize
+    requires { ⌜ (clusterCheck (now cluster) ≡ ClusterCheck.Whole) × Allows (now cluster) (now allow) × Pairs (now cluster) (now pairs) × Placed (now cluster) places × Loads (now cluster) places (replicate 256 64) sums × (v < vmCount (now cluster)) × (directStep (roomOf (now cluster)) (held (now cluster) places) ≡ []) ⌝ }
+    ensures { λ r. ⌜ r ≡ usefulNode (roomOf (now (cluster .entry))) (held (now (cluster .entry)) places) v (nodesIn (roomOf (now (cluster .entry)))) ⌝ }
+{
+    let n = records::node_count(cluster);
+    let p = rules::node_at(&places, v);
+    if p == records::vm_target(cluster, v) as usize {
+        return n;
+    }
+    let d = pivot_node(cluster, allow, pairs, &places, sums, v);
+    if n <= d {
+        return n;
+    }
+    let mut then = places;
+    then[v] = d as u8;
+    if some_comes(cluster, allow, pairs, &then, v, p) {
+        return d;
+    }
+    n
+}
+
+// The pivot of the lowest VM that has a useful one, to its lowest such node.
+pub fn pivot_step(
+    cluster: &[u8],
+    allow: &[u8; 16384],
+    pairs: &[u8; 65536],
+    places: [u8; 256],
+) -> [u8; 256]
+    requires { ⌜ (clusterCheck (now cluster) ≡ ClusterCheck.Whole) × Allows (now cluster) (now allow) × Pairs (now cluster) (now pairs) × Placed (now cluster) places × (directStep (roomOf (now cluster)) (held (now cluster) places) ≡ []) ⌝ }
+    ensures { λ r. ⌜ r ≡ destsFrom (pivotStep (roomOf (now (cluster .entry))) (held (now (cluster .entry)) places)) ⌝ }
+{
+    let n = records::vm_count(cluster);
+    let nodes = records::node_count(cluster);
+    let mut dests = [64u8; 256];
+    let sums = rules::loads(cluster, &places, &dests);
+    let mut v: usize = 0;
+    while v < n {
+        let d = useful_node(cluster, allow, pairs, places, sums, v);
+        if d < nodes {
+            dests[v] = d as u8;
+            return dests;
+        }
+        v += 1;
+    }
+    dests
+}

@@ -1,0 +1,152 @@
+//! Compares the library's planner with the model's, and has the library check what it built.
+
+use crate::report::{hex, missing, outcome, print_counts, verdict_words};
+use crate::report::{Counts, Report, Stream, BLOCKED, COST, STRAY};
+use crate::{build, build_lent, check, Lent};
+use kobdrieft_model::gen::Rng;
+use kobdrieft_model::planner::BUFFER;
+use kobdrieft_model::{self as model, parse_cluster, parse_plan};
+
+/// The outcomes of `build`, and what the plans of generated inputs were like.
+#[derive(Default)]
+pub(crate) struct Builds {
+    outcomes: Counts,
+    pivoted: u64,
+    most_pivots: usize,
+    most_steps: usize,
+    blocked_late: u64,
+}
+
+impl Builds {
+    fn count(&mut self, stream: Stream, cluster: &[u8], built: &Built) {
+        let outcome = outcome(built.answer);
+        self.outcomes[outcome][stream as usize] += 1;
+        if matches!(stream, Stream::HandSet) || built.is_refused() {
+            return;
+        }
+        let pivots = pivots(cluster, built.record());
+        self.most_pivots = self.most_pivots.max(pivots);
+        self.most_steps = self.most_steps.max(built.steps());
+        self.pivoted += u64::from(outcome == 0 && pivots > 0);
+        self.blocked_late += u64::from(outcome == BLOCKED && built.steps() > 0);
+    }
+
+    /// What no generated input led to.
+    pub(crate) fn missing(&self) -> Vec<String> {
+        let mut missing = missing(&self.outcomes, "build", (0..=10).chain([BLOCKED]));
+        let more = [(self.pivoted, "a plan with a pivot"), (self.blocked_late, "blocked late")];
+        missing
+            .extend(more.iter().filter(|(count, _)| *count == 0).map(|(_, name)| name.to_string()));
+        missing
+    }
+
+    pub(crate) fn print(&self) {
+        print_counts("build", &self.outcomes);
+        println!("generated plans with a pivot: {}", self.pivoted);
+        println!("generated answers blocked after some step: {}", self.blocked_late);
+        println!("most steps in one: {}; most pivots: {}", self.most_steps, self.most_pivots);
+    }
+}
+
+/// How many moves of a record go elsewhere than to their VM's target.
+fn pivots(cluster: &[u8], record: &[u8]) -> usize {
+    let room = parse_cluster(cluster).expect("the model took it");
+    let steps = parse_plan(record).expect("the model wrote it");
+    steps.iter().flatten().filter(|m| m.to != room.vms[m.vm].target).count()
+}
+
+/// The buffer's length for the next comparison. Every length below the least one that is taken
+/// comes in turn, then that one, and longer ones.
+pub fn buffer_length(turn: usize) -> usize {
+    match turn % 16 {
+        0 => turn / 16 % BUFFER,
+        1 => BUFFER - 1,
+        2..=4 => BUFFER + 1 + turn / 16 % 3_000,
+        _ => BUFFER,
+    }
+}
+
+impl Report {
+    /// Compares `build` with a buffer of this length and random bytes in it; all of the buffer
+    /// counts. Then the library checks what it wrote.
+    pub fn build(&mut self, stream: Stream, cluster: &[u8], buffer: usize) {
+        let mut rng = Rng::new(self.passed + self.failed);
+        let before: Vec<u8> = (0..buffer).map(|_| rng.draw() as u8).collect();
+        let expected = built_by(&before, |out| model::pack_answer(model::build(cluster, out)));
+        self.builds.count(stream, cluster, &expected);
+        let (mut result, kept) = built_watched(cluster, &before);
+        if kept && result == expected {
+            result = built_by(&before, |out| build(cluster, out));
+        }
+        if self.judge(kept && result == expected) {
+            println!("build differs{}", if kept { "" } else { STRAY });
+            println!("cluster {}\nbuffer before {}", hex(cluster), hex(&before));
+            println!("library {}\n{}", answer_words(result.answer), hex(&result.out));
+            println!("model   {}\n{}", answer_words(expected.answer), hex(&expected.out));
+        }
+        if !result.is_refused() {
+            self.check_built(cluster, &result);
+        }
+    }
+
+    /// The library's own checker must take the plan it built at its cost, and refuse the steps
+    /// of blocked with 19.
+    fn check_built(&mut self, cluster: &[u8], built: &Built) {
+        let expected =
+            if built.answer >> 62 == 0 { built.answer & COST } else { 2 << 62 | 19 << 16 };
+        let result = check(cluster, built.record());
+        if self.judge(result == expected) {
+            println!("check of a built plan differs, answer {}", answer_words(built.answer));
+            println!("cluster {}\nplan {}", hex(cluster), hex(built.record()));
+            println!("library {}", verdict_words(result));
+            println!("wanted  {}", verdict_words(expected));
+        }
+    }
+}
+
+/// An answer, and the buffer after the call.
+#[derive(PartialEq)]
+struct Built {
+    answer: u64,
+    out: Vec<u8>,
+}
+
+impl Built {
+    fn is_refused(&self) -> bool {
+        self.answer >> 62 == 2
+    }
+
+    fn steps(&self) -> usize {
+        (self.answer >> 53 & 511) as usize
+    }
+
+    /// The record at the buffer's front, by the length that it states.
+    fn record(&self) -> &[u8] {
+        let stated = self.out.iter().skip(1).take(4).fold(0, |n, &b| n * 256 + usize::from(b));
+        &self.out[..stated.min(self.out.len())]
+    }
+}
+
+fn built_by(before: &[u8], planner: impl Fn(&mut [u8]) -> u64) -> Built {
+    let mut out = before.to_vec();
+    let answer = planner(&mut out);
+    Built { answer, out }
+}
+
+/// What the library builds between guards; and whether the cluster and the guards stayed.
+fn built_watched(cluster: &[u8], before: &[u8]) -> (Built, bool) {
+    let (mut lent, mut out) = (Lent::of(cluster), Lent::of(before));
+    let answer = build_lent(&mut lent, &mut out);
+    let kept = lent.untouched() && out.guarded();
+    (Built { answer, out: out.now().to_vec() }, kept)
+}
+
+fn answer_words(packed: u64) -> String {
+    let (steps, moves) = (packed >> 53 & 511, packed >> 44 & 511);
+    let counts = format!("{steps} steps, {moves} moves, cost {}", packed & COST);
+    match packed >> 62 {
+        0 => format!("{packed:#018x} plan, {counts}"),
+        1 => format!("{packed:#018x} blocked, {counts}"),
+        _ => verdict_words(packed),
+    }
+}
