@@ -11,3 +11,4 @@ pub mod Lone
 pub mod Making
 pub mod Answers
 pub mod Promised
+pub mod Paper

@@ -1,5 +1,4 @@
 -- The laws by topic.
-pub mod Paper
 pub mod Orders
 pub mod Sound
 pub mod Runs

@@ -76,7 +76,7 @@ not-empty : {A : Type 0} (x : A) (xs : List A) → (x ∷ xs) ≡ [] → ⊥
 not-empty x xs e = let l = ap length e in omega arith
 
 -- where there is no next step no direct move is sound and no pivot is useful
-rest-stuck : (room : Room) (places : Placement) → nextStep room places ≡ [] → home room places ≡ false → Stuck room places
+pub rest-stuck : (room : Room) (places : Placement) → nextStep room places ≡ [] → home room places ≡ false → Stuck room places
 unfolding nextStep orElse home
 rest-stuck room places e h =
     let b = both (directStep room places) (pivotStep room places) e in
