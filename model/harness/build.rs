@@ -1,5 +1,5 @@
-//! Links the static libraries under test: the checker, and with the feature `planner` the planner.
-//! Each exports its own calls and no other's.
+//! Links the static libraries under test: the checker and the planner. Each exports its own call and
+//! no other's.
 //!
 //! KOBDRIEFT_LIB_DIR is the directory they are in.
 
@@ -11,8 +11,7 @@ fn main() {
     println!("cargo:rerun-if-env-changed=KOBDRIEFT_LIB_DIR");
     let dir = env::var_os("KOBDRIEFT_LIB_DIR").map_or_else(default_dir, PathBuf::from);
     println!("cargo:rustc-link-search=native={}", dir.display());
-    let planner = env::var_os("CARGO_FEATURE_PLANNER").map(|_| "planner");
-    for name in ["rules"].into_iter().chain(planner) {
+    for name in ["rules", "planner"] {
         let archive = dir.join(format!("lib{name}.a"));
         println!("cargo:rerun-if-changed={}", archive.display());
         if !archive.is_file() {

@@ -80,21 +80,14 @@ fn checked(cluster: &[u8], plan: &[u8]) {
     }
 }
 
-// The lines of the record in the first so many bytes.
-fn front(cluster: &[u8], plan: &[u8], end: usize) {
-    if end <= plan.len() {
-        checked(cluster, &plan[0..end]);
-    }
-}
-
-// How long a record of so many steps and moves is: the header, two bytes for each step and two for each move.
-fn size(steps: u64, moves: u64) -> usize {
-    if steps <= 512 {
-        if moves <= 1024 {
-            return (7 + steps * 2 + moves * 2) as usize;
+// The lines of the record at the buffer's front, as long as it says it is.
+fn front(cluster: &[u8], plan: &[u8]) {
+    if 7 <= plan.len() {
+        let end = records::stated_length(plan);
+        if end <= plan.len() {
+            checked(cluster, &plan[0..end]);
         }
     }
-    0
 }
 
 // A plan or blocked: the line of counts, and the lines of its moves.
@@ -104,5 +97,5 @@ pub fn made(word: &[u8], cluster: &[u8], plan: &[u8], made: Made) {
     field(b" moves ", made.moves);
     field(b" cost ", made.cost);
     text(b"\n");
-    front(cluster, plan, size(made.steps, made.moves));
+    front(cluster, plan);
 }

@@ -1,13 +1,12 @@
 -- The planner's answer: a plan, or blocked, with what it wrote; or a refusal (01, "The planner" and refusals 1 to 10).
 use Prim.Native.Nat.{ℕ, _+_, _*_, _^_}
-use mathlib.Core.Bool.{Bool, true, false}
-use mathlib.Core.List.{List, [], _∷_, _++_}
+use mathlib.Core.List.{List, _++_}
 use lib.ListN.{length, take, drop}
 use lib.Dec.{ltb}
 use Rattle.records.specs.Base.{pick}
 use Rattle.records.specs.Bytes.{be32}
 use Rattle.records.specs.Room.{Room, roomOf, clusterCheck, clusterNumber}
-use Rattle.records.specs.Plan.{Step, moveTotal, planBytes}
+use Rattle.records.specs.Plan.{Step, moveTotal}
 use Rattle.records.specs.declared.faults.ClusterCheck.{ClusterCheck}
 use Rattle.rules.specs.Moments.{currentOf}
 use Rattle.rules.specs.Rules.{targetCheck}
@@ -30,7 +29,7 @@ stepsFor room = picked room (currentOf room)
 unfoldable pub madeOf : Room → List Step → Made
 madeOf room steps = record { steps = length steps; moves = moveTotal steps; cost = costOf room steps }
 
--- nobody out of place behind the last step: a plan; else blocked
+-- nobody out of place after the last step: a plan; else blocked
 unfoldable pub outcome : Room → List Step → Answer
 outcome room steps = pick (home room (afterAll (currentOf room) steps)) (Plan (madeOf room steps)) (Blocked (madeOf room steps))
 
@@ -51,7 +50,7 @@ answerOf cluster size =
     (pick (ltb size 2051) (Refused Buffer)
     (outcome (roomOf cluster) (stepsFor (roomOf cluster)))))
 
--- what is then in the buffer: behind a refusal what was there; else the record of the steps at its front, and behind it what was there
+-- what is then in the buffer: on a refusal what was there; else the record of the steps at its front, and behind it what was there
 unfoldable pub bufferOf : Answer → List ℕ → List ℕ → List ℕ
 bufferOf (Refused fault) plan buffer = buffer
 bufferOf (Plan made) plan buffer = plan ++ drop (length plan) buffer
@@ -67,11 +66,11 @@ buildNumber (Cluster fault) = clusterNumber fault
 buildNumber (Target fault) = targetNumber fault
 buildNumber Buffer = 10
 
--- an answer as one number: bit 63 a refusal, its number from bit 16 on; else bit 62 if blocked, the steps from bit 53 on, the moves from
--- bit 44 on, the cost below
+-- steps, moves and cost side by side: from bit 53 on, from bit 44 on, below
 abbrev pub packedMade : Made → ℕ
 packedMade made = made .steps * 2 ^ 53 + made .moves * 2 ^ 44 + made .cost
 
+-- an answer as one number: of a plan these; of blocked bit 62 beside them; of a refusal bit 63, and its number from bit 16 on
 abbrev pub packedAnswer : Answer → ℕ
 packedAnswer (Plan made) = packedMade made
 packedAnswer (Blocked made) = 2 ^ 62 + packedMade made

@@ -7,7 +7,7 @@ use lib.ListN.{length, getD, set}
 use lib.Dec.{eqb}
 use Rattle.records.specs.Base.{pick, all}
 use Rattle.records.specs.Room.{Constraint, ban, fence, spread, latency, Room, roomOf, nodeOf, vmOf, vmCount, constraintOf}
-use Rattle.records.specs.Plan.{Move, Step, moveTotal, stepsBytes, planBytes, written, shaped}
+use Rattle.records.specs.Plan.{Move, Step, moveTotal, stepsBytes, written, shaped}
 use Rattle.rules.specs.Moments.{Placement, placeOf, currentOf, targetOf, within, withVm, tallyAt, firstMoment, allRunning}
 use Rattle.rules.specs.Orders.{spreads, some, meetsMate}
 use Rattle.rules.specs.Rules.{allowed, soundStep}
@@ -16,10 +16,7 @@ use Rattle.rules.specs.Promises.{afterAll}
 use Rattle.rules.specs.Inner.{held, busyFrom}
 use Rattle.rules.specs.declared.tally.Tally.{Tally}
 use Rattle.planner.specs.Picks.{moving, canGo, useful}
-use Rattle.planner.specs.Answer.{stepsFor, bufferOf}
-use Rattle.planner.specs.declared.answer.Made.{Made}
-use Rattle.planner.specs.declared.answer.Answer.{Answer}
-use Rattle.planner.specs.declared.answer.Answer.the-variants.{Plan, Blocked, Refused}
+use Rattle.planner.specs.Answer.{stepsFor}
 use Rattle.planner.specs.declared.steps.Trail.{Trail}
 
 -- ---- pairs of VMs that one spread names, as a table of 256 marks a VM
@@ -128,17 +125,3 @@ pub record Trailed (s before after : List ℕ) (r : Trail) : Type 0 where
   pub shaped : shaped (stepsFor (roomOf s)) ≡ true
   pub steps-most : length (stepsFor (roomOf s)) ≤ 511
   pub moves-most : moveTotal (stepsFor (roomOf s)) ≤ 511
-
--- ---- the answer
-
--- an answer's counts and cost have room in the number returned
-abbrev pub Packs : Answer → Type 0
-Packs (Plan made) = (made .steps < 2 ^ 9) × (made .moves < 2 ^ 9) × (made .cost < 2 ^ 43)
-Packs (Blocked made) = (made .steps < 2 ^ 9) × (made .moves < 2 ^ 9) × (made .cost < 2 ^ 43)
-Packs (Refused fault) = Unit
-
--- an answer is the one defined, with the buffer that goes with it
-pub record Answers (s : List ℕ) (answer : Answer) (before after : List ℕ) (r : Answer) : Type 0 where
-  pub is : r ≡ answer
-  pub buffer : after ≡ bufferOf answer (planBytes (stepsFor (roomOf s))) before
-  pub packs : Packs r

@@ -1,6 +1,6 @@
 -- The steps that the planner picks (01, "The planner").
 use Prim.Native.Nat.{ℕ, zero, suc, _*_}
-use mathlib.Core.Bool.{Bool, true, false, not, _&&_}
+use mathlib.Core.Bool.{Bool, not, _&&_}
 use mathlib.Core.List.{List, [], _∷_, _++_}
 use mathlib.Core.Path.{_≡_}
 use lib.ListN.{length}
@@ -38,7 +38,7 @@ moving v d = record { vm = v; to = d }
 abbrev pub direct : Room → ℕ → Move
 direct room v = moving v (placeOf (targetOf room) v)
 
--- VM v has a sound direct move: it is out of place, and moving it alone to its target is a sound step
+-- VM v has a sound direct move: off its target, it could go there now, by itself
 unfoldable pub canGo : Room → Placement → ℕ → Bool
 canGo room places v = away room places v && soundStep room places (direct room v ∷ [])
 
@@ -60,8 +60,8 @@ directStep room places = joinedAll room places [] (vmsIn room)
 unfoldable pub otherGoes : Room → Placement → ℕ → Bool
 otherGoes room places v = some (λ u. not (eqb u v) && canGo room places u) (vmsIn room)
 
--- a pivot of VM v to node d is useful: v is out of place, d is neither its place nor its target, moving it there alone is a sound step,
--- and afterwards some other VM has a sound direct move
+-- a pivot of VM v to node d is useful: v is off its target, d is a third node, the move is sound by itself, and then a different VM has
+-- a sound direct move
 unfoldable pub useful : Room → Placement → ℕ → ℕ → Bool
 useful room places v d =
     (away room places v && (not (eqb d (placeOf places v)) && not (eqb d (placeOf (targetOf room) v)))) &&
@@ -77,7 +77,7 @@ unfoldable pub pivotAmong : Room → Placement → ℕ → List ℕ → Step
 pivotAmong room places v [] = []
 pivotAmong room places v (d ∷ ds) = pick (useful room places v d) (moving v d ∷ []) (pivotAmong room places v ds)
 
--- the pivot of the first of the VMs that has a useful one, to its lowest such node
+-- the pivot: the VMs tried in turn, and for each the nodes by number
 unfoldable pub pivotFirst : Room → Placement → List ℕ → Step
 pivotFirst room places [] = []
 pivotFirst room places (v ∷ vs) = orElse (pivotAmong room places v (nodesIn room)) (pivotFirst room places vs)

@@ -151,7 +151,7 @@ fn useful_node(
     n
 }
 
-// The pivot of the lowest VM that has a useful one, to its lowest such node.
+// The first useful pivot, VMs tried by number and for each its nodes by number.
 pub fn pivot_step(
     cluster: &[u8],
     allow: &[u8; 16384],

@@ -15,7 +15,7 @@ ghost use Rattle.records.specs.Room.{roomOf, clusterCheck};
 ghost use Rattle.records.specs.declared.faults.ClusterCheck.{ClusterCheck};
 ghost use Rattle.rules.specs.Rules.{targetCheck};
 ghost use Rattle.planner.specs.Answer.{outcome, stepsFor, onTarget, answerOf};
-ghost use Rattle.planner.specs.Inner.{Answers};
+ghost use Rattle.planner.specs.Promises.{Answers};
 ghost use Rattle.planner.specs.declared.answer.Answer.{Answer};
 ghost use Rattle.planner.specs.declared.answer.BuildFault.{BuildFault};
 

@@ -49,6 +49,7 @@ pub use plan::move_count;
 pub use plan::move_to;
 pub use plan::move_vm;
 pub use plan::plan_check;
+pub use plan::stated_length;
 pub use plan::step_count;
 pub use plan::step_end;
 

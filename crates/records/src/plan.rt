@@ -8,6 +8,7 @@ ghost use mathlib.Core.Path.{_≡_};
 ghost use mathlib.Core.Bool.{_&&_};
 ghost use Prim.Native.Nat.{_+_, _≤_, _<_, _^_};
 ghost use lib.ListN.{length};
+ghost use Rattle.records.specs.Bytes.{be32};
 ghost use lib.Dec.{eqb};
 ghost use Rattle.records.specs.Plan.{stepCount, moveCount, moveOf, stepAt, stepEnd, stepsOf, stepsEnd, shaped, planCheck, Checked};
 ghost use Rattle.records.specs.Inner.{stepsOk};
@@ -82,6 +83,14 @@ pub fn plan_check(s: &[u8]) -> PlanCheck
     ensures { λ r. ⌜ Checked (now (s .entry)) r ⌝ }
 {
     first_fault(s)
+}
+
+// How long a record says it is.
+pub fn stated_length(s: &[u8]) -> usize
+    requires { ⌜ 7 ≤ length (now s) ⌝ }
+    ensures { λ r. ⌜ r ≡ be32 (now (s .entry)) 1 ⌝ }
+{
+    be32(s, 1) as usize
 }
 
 // How many steps an undamaged record has. The first starts behind the header, at 7.

@@ -51,6 +51,11 @@ pub record EveryRun (room : Room) (places : Placement) (steps : List Step) : Typ
   pub obeys : (last : Placement) (run : Run room places steps last) → EachBeginOfRun (Obeys room) run
   pub ends : (last : Placement) → Run room places steps last → home room last ≡ true
 
+-- a step is sound over orders: no fault 15, and each begin of each of its orders obeys the rules
+pub record SoundInOrders (room : Room) (places : Placement) (step : Step) : Type 0 where
+  pub well-named : named room places 0 step ≡ true
+  pub obeys : (end : Moment) (order : Order (firstMoment room places step) end) → settled end ≡ true → EachBegin (Obeys room) order
+
 -- some order of a step has a begin with P
 pub record SomeOrder (room : Room) (places : Placement) (step : Step) (P : Moment → ℕ → ℕ → Type 0) : Type 0 where
   pub end : Moment

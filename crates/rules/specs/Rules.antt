@@ -94,6 +94,7 @@ stepCheck room places step =
     (pick (not (unmet room places step)) (Faulty Mate)
     Sound)))
 
--- a step is sound: it passes the four tests. (Laws.Runs: order-obeys and step-sound tie this to every order of the step.)
+-- a step is sound: it passes the four tests. (Promises has the same over every order of the step, and the two agree: Laws.Runs,
+-- sound-orders.)
 unfoldable pub soundStep : Room → Placement → Step → Bool
 soundStep room places step = named room places 0 step && (permitted room step && (fitting room places step && unmet room places step))

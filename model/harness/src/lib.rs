@@ -4,11 +4,9 @@
 //! write into lent bytes, or beside them, shows.
 
 pub mod baseline;
-#[cfg(feature = "planner")]
 pub mod builds;
 pub mod inputs;
 pub mod report;
-#[cfg(feature = "planner")]
 pub mod rooms;
 pub mod streams;
 pub mod timing;
@@ -16,7 +14,6 @@ pub mod timing;
 mod c {
     extern "C" {
         pub fn check(cluster: *const u8, clusters: usize, plan: *const u8, plans: usize) -> u64;
-        #[cfg(feature = "planner")]
         pub fn build(cluster: *const u8, clusters: usize, out: *mut u8, outs: usize) -> u64;
     }
 }
@@ -29,7 +26,6 @@ pub fn check(cluster: &[u8], plan: &[u8]) -> u64 {
 }
 
 /// Builds a plan for a cluster at the front of `out`; the packed answer.
-#[cfg(feature = "planner")]
 pub fn build(cluster: &[u8], out: &mut [u8]) -> u64 {
     // SAFETY: as in `check`, and `out` can be written for its length and overlaps nothing.
     unsafe { c::build(cluster.as_ptr(), cluster.len(), out.as_mut_ptr(), out.len()) }
@@ -85,7 +81,6 @@ pub fn check_lent(cluster: &mut Lent, plan: &mut Lent) -> u64 {
 }
 
 /// As `build`, over watched bytes.
-#[cfg(feature = "planner")]
 pub fn build_lent(cluster: &mut Lent, out: &mut Lent) -> u64 {
     // SAFETY: as in `check_lent`; the two vectors are apart.
     unsafe { c::build(cluster.pointer(), cluster.len(), out.pointer(), out.len()) }

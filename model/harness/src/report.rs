@@ -1,6 +1,4 @@
 //! Compares the library with the model, input by input, and keeps count of the outcomes.
-
-#[cfg(feature = "planner")]
 use crate::builds::Builds;
 use crate::{check, check_lent, Lent};
 use kobdrieft_model as model;
@@ -27,7 +25,6 @@ pub struct Report {
     pub failed: u64,
     checks: Counts,
     longest: usize,
-    #[cfg(feature = "planner")]
     pub(crate) builds: Builds,
 }
 
@@ -68,7 +65,6 @@ impl Report {
     /// Fails once for each outcome that the generated inputs never had.
     pub fn expect_every_outcome(&mut self) {
         let missing = missing(&self.checks, "check", (0..=9).chain(11..=19));
-        #[cfg(feature = "planner")]
         let missing = [missing, self.builds.missing()].concat();
         for name in missing {
             println!("never generated: {name}");
@@ -80,7 +76,6 @@ impl Report {
     pub fn print(&self) {
         print_row("outcome", ["hand-set", "generated", "puzzles", "large"]);
         print_counts("check", &self.checks);
-        #[cfg(feature = "planner")]
         self.builds.print();
         println!("longest accepted plan generated: {} bytes", self.longest);
         println!("{} passed, {} failed", self.passed, self.failed);

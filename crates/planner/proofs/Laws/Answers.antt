@@ -25,7 +25,8 @@ use Rattle.rules.specs.Promises.{afterAll}
 use Rattle.rules.specs.declared.faults.TargetFault.{TargetFault}
 use Rattle.rules.specs.declared.faults.TargetCheck.{TargetCheck}
 use Rattle.planner.specs.Answer.{stepsFor, madeOf, outcome, onCluster, onTarget, answerOf, bufferOf}
-use Rattle.planner.specs.Inner.{Trailed, Answers}
+use Rattle.planner.specs.Promises.{Answers}
+use Rattle.planner.specs.Inner.{Trailed}
 use Rattle.planner.specs.declared.steps.Trail.{Trail}
 use Rattle.planner.specs.declared.answer.Made.{Made}
 use Rattle.planner.specs.declared.answer.BuildFault.{BuildFault}

@@ -2,7 +2,7 @@
 use Prim.Native.Nat.{ℕ, _+_, _*_, _<_, _^_}
 use mathlib.Core.Path.{_≡_, refl, sym, ap, _∙_}
 use Rattle.planner.specs.Answer.{buildNumber, packedMade, packedAnswer}
-use Rattle.planner.specs.Inner.{Packs}
+use Rattle.planner.specs.Promises.{Packs}
 use Rattle.planner.specs.declared.answer.Made.{Made}
 use Rattle.planner.specs.declared.answer.BuildFault.{BuildFault}
 use Rattle.planner.specs.declared.answer.Answer.{Answer}

@@ -24,18 +24,17 @@ use Rattle.rules.specs.Orders.{Run, EachBeginOfRun}
 use Rattle.rules.specs.Rules.{from, targetCheck}
 use Rattle.rules.specs.Cost.{costOf}
 use Rattle.rules.specs.Verdict.{home, verdictOf}
-use Rattle.rules.specs.Promises.{afterAll, soundAll, Obeys, StaysWithin}
+use Rattle.rules.specs.Promises.{afterAll, soundAll, Obeys, EveryRun, StaysWithin}
 use Rattle.rules.specs.declared.faults.TargetFault.{TargetFault}
 use Rattle.rules.specs.declared.faults.TargetCheck.{TargetCheck}
 use Rattle.rules.specs.declared.faults.Fault.{Fault}
 use Rattle.rules.specs.declared.faults.Verdict.{Verdict}
 use Rattle.rules.proofs.Laws.Planned.{planned-accepted, planned-away}
-use Rattle.rules.proofs.Laws.Runs.{sound-all-named, run-ends, run-obeys, stays-within}
+use Rattle.rules.proofs.Laws.Runs.{sound-all-named, run-ends, run-obeys, sound-orders, stays-within}
 use Rattle.rules.proofs.Laws.Verdicts.{current-length}
 use Rattle.planner.specs.Picks.{away, awayCount, canGo, useful, directStep, pivotStep, orElse, nextStep, Picks, vmsIn}
 use Rattle.planner.specs.Answer.{stepsFor, madeOf, outcome, onCluster, onTarget, answerOf, bufferOf, frontOf, packedAnswer}
-use Rattle.planner.specs.Promises.{Stuck, Written, Planned, Halted, Taken, Built}
-use Rattle.planner.specs.Inner.{Packs, Answers}
+use Rattle.planner.specs.Promises.{Packs, Answers, Stuck, Written, Planned, Halted, Taken, Built}
 use Rattle.planner.specs.declared.answer.Made.{Made}
 use Rattle.planner.specs.declared.answer.BuildFault.{BuildFault}
 use Rattle.planner.specs.declared.answer.Answer.{Answer}
@@ -185,6 +184,12 @@ module _ (cluster before : List ℕ) (t : Taken cluster before) where
   moves-511 : moveTotal (stepsFor (roomOf cluster)) ≤ 511
   moves-511 = let a = moves-few in let b = budget-511 (roomOf cluster) (currentOf (roomOf cluster)) few in omega arith
 
+  -- where every run ends
+  ends-there : {last : Placement} → Run (roomOf cluster) (currentOf (roomOf cluster)) (stepsFor (roomOf cluster)) last →
+      last ≡ afterAll (currentOf (roomOf cluster)) (stepsFor (roomOf cluster))
+  ends-there run =
+      run-ends (sound-all-named (roomOf cluster) (currentOf (roomOf cluster)) (stepsFor (roomOf cluster)) steps-sound) (current-length (roomOf cluster)) run
+
   -- what is written
   module _ (cost-low : costOf (roomOf cluster) (stepsFor (roomOf cluster)) < 2 ^ 43) where
     written-for : (plan : List ℕ) → plan ≡ planBytes (stepsFor (roomOf cluster)) → Written cluster plan (madeOf (roomOf cluster) (stepsFor (roomOf cluster)))
@@ -194,7 +199,9 @@ module _ (cluster before : List ℕ) (t : Taken cluster before) where
         let m = moves-few in let n = steps-few in let k = moves-511 in
         record {
           picks = rw e picks-are;
+          named = rw e (sound-all-named (roomOf cluster) (currentOf (roomOf cluster)) (stepsFor (roomOf cluster)) steps-sound);
           obeys = rw e (λ last run. run-obeys steps-sound (current-length (roomOf cluster)) run);
+          reaches = rw e (λ last run. ends-there run);
           auditor = rw e (stays-within (roomOf cluster) (currentOf (roomOf cluster)) (stepsFor (roomOf cluster)) steps-sound (current-length (roomOf cluster)));
           none = λ z. e ∙ empty (stepsFor (roomOf cluster)) (let b = budget-none (roomOf cluster) (currentOf (roomOf cluster)) z in omega arith);
           short = λ z. rw e (let b = budget-most (roomOf cluster) (currentOf (roomOf cluster)) z in omega arith);
@@ -258,8 +265,10 @@ module _ (cluster before : List ℕ) (t : Taken cluster before) where
         not-false (home (roomOf cluster) (afterAll (currentOf (roomOf cluster)) (stepsFor (roomOf cluster)))) (sym blocks-is ∙ ap blocks e) in
         record {
           written = written-made m;
-          ends = rw plan-steps (λ last run.
-              ap (home (roomOf cluster)) (run-ends (sound-all-named (roomOf cluster) (currentOf (roomOf cluster)) (stepsFor (roomOf cluster)) steps-sound) (current-length (roomOf cluster)) run) ∙ h);
+          runs = rw plan-steps (record {
+            obeys = λ last run. run-obeys steps-sound (current-length (roomOf cluster)) run;
+            ends = λ last run. ap (home (roomOf cluster)) (ends-there run) ∙ h;
+          });
           accepted =
               ap (verdictOf cluster) p ∙ planned-accepted cluster (stepsFor (roomOf cluster)) (t .cluster-whole) (t .target-good) steps-shaped steps-sound h ∙
               ap (λ (x : Made). Verdict.Accepted (x .cost)) m;
@@ -302,6 +311,7 @@ built cluster before after a r g e = record {
       let t = taken-of cluster before n in
       halted-is cluster before t made (frontOf after) (front-for cluster before t (answerOf cluster (length before)) after n (g .buffer)) (low-blocked made (g .is ∙ q)) q;
   blocked = λ t. blocked-is cluster before t (frontOf after) (front-for cluster before t (answerOf cluster (length before)) after (not-refused t) (g .buffer));
+  sound = sound-orders (roomOf cluster);
 }
   where
     low-plan : (made : Made) → a ≡ Plan made → made .cost < 2 ^ 43

@@ -15,7 +15,7 @@ use Rattle.records.proofs.Laws.Bools.{and-left, and-right, and-both}
 use Rattle.rules.specs.Moments.{Placement, placeOf, after, within, Phase, idle, waiting, running, ended, cell, Moment, numberOf, countsOn, tallyAt, phaseOf, cellsFrom, firstMoment, atRest, rests, settled, leftAt, placesLeft}
 use Rattle.rules.specs.Orders.{begin, finish, Event, begins, ends, later, Order, done, next, Run, stop, step, fits, meetsMate, EachBegin, SomeBegin, EachMoment, EachChange, EachBeginOfRun, EachMomentOfRun, EachChangeOfRun, MayBegin}
 use Rattle.rules.specs.Rules.{from, allowed, named, permitted, fitting, unmet, soundStep}
-use Rattle.rules.specs.Promises.{afterAll, namedAll, soundAll, Obeys, SomeOrder, StaysWithin}
+use Rattle.rules.specs.Promises.{afterAll, namedAll, soundAll, Obeys, SoundInOrders, SomeOrder, StaysWithin}
 use Rattle.rules.proofs.Laws.Sound.{sound-named, sound-permitted, sound-fitting, sound-unmet, sound-tests}
 use Rattle.rules.proofs.Laws.Orders.{never, load, memoryIn, cpuIn, memory-load, cpu-load, Under, under-self, both, under-load, Onward, none, same, runs, over, stops, onward-self, onward-order, begins-allowed, begins-fit, begins-apart, some-order, some-forbidden, some-misfit, some-mate, after-length, order-leaves}
 
@@ -134,6 +134,13 @@ step-sound room places moves n h =
     mate x =
         each-some (Obeys room) (λ cs v d. meetsMate room cs v d ≡ true) (λ cs v d p q. false≢true (sym (p .may .apart) ∙ q)) (x .order)
         (h (x .end) (x .order) (x .whole)) (x .begin)
+
+-- sound as it is decided is sound over orders
+pub sound-orders : (room : Room) (places : Placement) (moves : Step) → (soundStep room places moves ≡ true) ↔ SoundInOrders room places moves
+sound-orders room places moves = (
+  (λ e. record { well-named = sound-named room places moves e; obeys = λ end o s. order-obeys room places moves e o }),
+  (λ x. step-sound room places moves (x .well-named) (x .obeys)),
+)
 
 pub runs-sound : (room : Room) (places : Placement) (steps : List Step) → namedAll room places steps ≡ true → length places ≡ length (room .vms) →
     ((last : Placement) (run : Run room places steps last) → EachBeginOfRun (Obeys room) run) → soundAll room places steps ≡ true

@@ -13,7 +13,6 @@ use std::process::exit;
 
 fn main() {
     checks();
-    #[cfg(feature = "planner")]
     planning::builds();
 }
 
@@ -125,8 +124,6 @@ fn times(input: &Input) -> [f64; 3] {
 }
 
 // ---------------------------------------------------------------- the planner
-
-#[cfg(feature = "planner")]
 mod planning {
     use super::expect;
     use kobdrieft_harness::build;

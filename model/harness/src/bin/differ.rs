@@ -1,14 +1,11 @@
 //! `differ SEED COUNT [--seconds N]`: holds the library beside the model on all hand-set inputs,
-//! on COUNT generated ones (with the planner, as many puzzles) and on larger rooms, and fails on
+//! on COUNT generated ones, on as many puzzles for the planner and on larger rooms, and fails on
 //! any difference.
-
-#[cfg(feature = "planner")]
 use kobdrieft_harness::builds::buffer_length;
 use kobdrieft_harness::report::{Report, Stream};
 use kobdrieft_harness::streams::large;
 use kobdrieft_model::edges::edges;
 use kobdrieft_model::gen::{cases, Rng};
-#[cfg(feature = "planner")]
 use kobdrieft_model::{cluster_bytes, planner::BUFFER, puzzles::puzzle};
 use std::env;
 use std::process::exit;
@@ -57,7 +54,6 @@ fn read_words(words: &[String]) -> Option<Words> {
 fn hand_set(report: &mut Report) {
     for edge in edges() {
         report.check(Stream::HandSet, &edge.cluster, &edge.plan);
-        #[cfg(feature = "planner")]
         report.build(Stream::HandSet, &edge.cluster, edge.buffer);
     }
 }
@@ -67,7 +63,6 @@ fn hand_set(report: &mut Report) {
 fn generated(report: &mut Report, words: &Words) -> usize {
     let start = Instant::now();
     let mut rooms = Rng::new(!words.seed);
-    #[cfg(feature = "planner")]
     let mut puzzles = Rng::new(!words.seed);
     for (i, case) in cases(words.seed, words.count).enumerate() {
         if words.time.is_some_and(|time| start.elapsed() >= time) {
@@ -75,7 +70,6 @@ fn generated(report: &mut Report, words: &Words) -> usize {
             return i;
         }
         report.check(Stream::Generated, &case.cluster, &case.plan);
-        #[cfg(feature = "planner")]
         planned(report, i, &case.cluster, &mut puzzles);
         if i % CASES_A_ROOM == 0 {
             large_room(report, &mut rooms);
@@ -85,7 +79,6 @@ fn generated(report: &mut Report, words: &Words) -> usize {
 }
 
 /// Every other case's cluster, whole or damaged, and a puzzle.
-#[cfg(feature = "planner")]
 fn planned(report: &mut Report, turn: usize, cluster: &[u8], puzzles: &mut Rng) {
     if turn.is_multiple_of(2) {
         report.build(Stream::Generated, cluster, buffer_length(turn / 2));
@@ -98,6 +91,5 @@ fn large_room(report: &mut Report, rng: &mut Rng) {
     for plan in &room.plans {
         report.check(Stream::Large, &room.cluster, plan);
     }
-    #[cfg(feature = "planner")]
     report.build(Stream::Large, &room.cluster, BUFFER);
 }
