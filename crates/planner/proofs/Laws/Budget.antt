@@ -41,7 +41,7 @@ next-sound room places =
     next-cases room places (λ step. soundStep room places step ≡ true) (direct-sound room places) (λ e. pivot-sound room places)
 
 -- a step that is not empty has a move
-not-empty : (move : Move) (moves : Step) → move ∷ moves ≡ [] → ⊥
+pub not-empty : (move : Move) (moves : Step) → move ∷ moves ≡ [] → ⊥
 not-empty move moves e = never (cc)
 
 some-length : (step : Step) → (step ≡ [] → ⊥) → 0 < length step

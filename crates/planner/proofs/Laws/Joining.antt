@@ -24,7 +24,7 @@ use Rattle.rules.specs.Rules.{allowed, named, soundStep}
 use Rattle.rules.specs.Inner.{NeedOf, held, Placed, destsFrom, busyFrom, Loads, Allows}
 use Rattle.rules.specs.declared.tally.Need.{Need}
 use Rattle.rules.specs.declared.tally.Tally.{Tally}
-use Rattle.rules.proofs.Laws.Adding.{joins, adding, alone}
+use Rattle.rules.proofs.Laws.Adding.{eqb-sym, joins, adding}
 use Rattle.rules.proofs.Laws.Fit.{held-at, running-is}
 use Rattle.rules.proofs.Laws.Places.{target-at}
 use Rattle.rules.proofs.Laws.Sound.{sound-named}
@@ -132,9 +132,6 @@ dests-above (move ∷ moves) v h a =
     let k = ltb-true (move .vm) v (all-head (λ m. ltb (m .vm) v) move moves a) in
     getD-set-other (destsFrom moves) (move .vm) v (move .to) 0 (λ e. omega arith) ∙ dests-above moves v h (all-tail (λ m. ltb (m .vm) v) move moves a)
 
-eqb-turn : (a b : ℕ) → eqb a b ≡ eqb b a
-eqb-turn a b = bool-iff (eqb a b) (eqb b a) (λ e. eq-eqb b a (sym (eqb-true a b e))) (λ e. eq-eqb a b (sym (eqb-true b a e)))
-
 -- what the arrays give is what the step gives
 module _ (s places dests : List ℕ) (step : Step) (here : Tally) (v d : ℕ) (w : clusterCheck s ≡ Whole) (q : dests ≡ destsFrom step)
     (sound : soundStep (roomOf s) (held s places) step ≡ true)
@@ -148,7 +145,7 @@ module _ (s places dests : List ℕ) (step : Step) (here : Tally) (v d : ℕ) (w
         lt-ltb v (length (roomOf s .vms)) (omega arith),
         lt-ltb d (length (roomOf s .nodes)) (omega arith),
         held-at s places v t,
-        eqb-turn d (getD places v 0),
+        eqb-sym d (getD places v 0),
         h,
         q,
         running-is s places step w (sound-named (roomOf s) (held s places) step sound),

@@ -26,12 +26,13 @@ use Rattle.rules.specs.declared.tally.Tally.{Tally}
 use Rattle.rules.proofs.Laws.Adding.{Joins, joins-tests, alone, empty-sound}
 use Rattle.rules.proofs.Laws.Fit.{held-at}
 use Rattle.rules.proofs.Laws.Places.{target-at}
+use Rattle.rules.proofs.Laws.Targets.{dests-none}
 use Rattle.planner.specs.Picks.{moving, away, canGo, directStep, pivotFirst, pivotStep, pivotAmong, orElse, vmsIn, nodesIn}
 use Rattle.planner.specs.Inner.{Light, Rested, joinsIn, aside, pivotNode, comer, comesTo, usefulNode}
 use Rattle.planner.proofs.Laws.Direct.{direct-none}
 use Rattle.planner.proofs.Laws.Joining.{longer-sound}
 use Rattle.planner.proofs.Laws.Pivots.{pivot-among, useful-home, useful-nowhere, useful-found, useful-not}
-use Rattle.planner.proofs.Laws.Turning.{rest-tally}
+use Rattle.planner.proofs.Laws.Turning.{left-cons, left-none, rest-tally}
 
 -- ---- one VM alone
 
@@ -47,15 +48,11 @@ pub rested-still : (s places : List ℕ) (sums : List Tally) (d : ℕ) → Loads
     Rested s places d (getD sums d emptyTally)
 rested-still s places sums d l w h = rested s places (replicate 256 64) sums d l refl w h
 
-none-array : replicate 256 64 ≡ destsFrom []
-unfolding destsFrom
-none-array = refl
-
 pub lone-sound : (s places dests : List ℕ) (here : Tally) (v d : ℕ) (r : Bool) → r ≡ joinsIn s places dests here v d → dests ≡ replicate 256 64 → Rested s places d here →
     clusterCheck s ≡ Whole → v < vmCount s → d < nodeCount s → r ≡ soundStep (roomOf s) (held s places) (moving v d ∷ [])
 unfolding all
 lone-sound s places dests here v d r e q a w t n =
-    e ∙ sym (longer-sound s places dests [] here v d w (q ∙ none-array) (empty-sound (roomOf s) (held s places)) (a .is) t n refl)
+    e ∙ sym (longer-sound s places dests [] here v d w (q ∙ sym dests-none) (empty-sound (roomOf s) (held s places)) (a .is) t n refl)
 
 -- not to its target
 module _ (s places : List ℕ) (v d t : ℕ) (e : t ≡ vmOf (roomOf s) v .target) where
@@ -102,14 +99,6 @@ module _ (s places : List ℕ) (v p u t : ℕ) (e : t ≡ vmOf (roomOf s) u .tar
     comer-goes r f o = f ∙ sound-goes (roomOf s) (held s places) u p (target-is ∙ q) ∙ rw (target-is, eq-eqb t p q, ne-eqb u v o)
 
 -- ---- the first node
-
-left-cons : (n v : ℕ) → v < n → from v (n - v) ≡ v ∷ from (v + 1) (n - (v + 1))
-unfolding from
-left-cons n v h = let e : n - v ≡ suc (n - suc v) = omega arith in rw (e, add-one)
-
-left-none : (n v : ℕ) → n ≤ v → from v (n - v) ≡ []
-unfolding from
-left-none n v h = let z : n - v ≡ 0 = omega arith in rw z
 
 pub node-start : (s places : List ℕ) (v n : ℕ) → n ≡ nodeCount s →
     pivotNode (roomOf s) (held s places) v (from 0 (n - 0)) ≡ pivotNode (roomOf s) (held s places) v (nodesIn (roomOf s))

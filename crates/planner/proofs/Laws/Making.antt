@@ -7,7 +7,7 @@ use mathlib.Core.Path.{_≡_, refl, sym, ap, ap₂, _∙_}
 use native.Mathlib.Decide.{ℕ-discrete}
 use native.Mathlib.Numerals.{add-one}
 use native.Mathlib.Omega.{arith}
-use lib.ListN.{length, getD, set, replicate, length-set, length-append, length-replicate, getD-replicate}
+use lib.ListN.{length, getD, set, replicate, length-set, length-append, getD-replicate}
 use lib.Seq.{getD-set-same, getD-set-other}
 use lib.Dec.{ltb, eqb}
 use borrow.Author.Tests.{ltb-true, lt-ltb, le-ltb}
@@ -26,6 +26,7 @@ use Rattle.rules.specs.Rules.{named, soundStep}
 use Rattle.rules.specs.Verdict.{home}
 use Rattle.rules.specs.Promises.{afterAll}
 use Rattle.rules.specs.Inner.{held, Placed, Holds, destsFrom}
+use Rattle.rules.proofs.Laws.Fit.{dests-length}
 use Rattle.rules.proofs.Laws.Orders.{named-least, named-vm, named-node, named-off, named-rest, named-cons, after-length}
 use Rattle.rules.proofs.Laws.Planned.{after-all-snoc}
 use Rattle.rules.proofs.Laws.Sound.{sound-named}
@@ -47,11 +48,6 @@ moves-same : (a b : List ℕ) (k n : ℕ) → ((i : ℕ) → k ≤ i → getD a 
 unfolding movesIn
 moves-same a b k zero e = refl
 moves-same a b k (suc n) e = ap₂ (λ (d : ℕ) (rest : Step). moveIn k d ++ rest) (e k (omega arith)) (moves-same a b (suc k) n (λ i h. e i (omega arith)))
-
-dests-length : (step : Step) → length (destsFrom step) ≡ 256
-unfolding destsFrom
-dests-length [] = simp length-replicate
-dests-length (move ∷ moves) = length-set (destsFrom moves) (move .vm) (move .to) ∙ dests-length moves
 
 module _ (room : Room) (places : Placement) (few : length (room .nodes) ≤ 64) (most : length (room .vms) ≤ 256) where
   -- no VM below the first has a destination

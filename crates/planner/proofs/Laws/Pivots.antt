@@ -17,16 +17,13 @@ use Rattle.records.proofs.Laws.Bools.{and-left, and-right, and-both, bool-iff, 
 use Rattle.rules.specs.Moments.{Placement, placeOf, targetOf, after, within, withVm, idle, cell, Moment, countsOn, tallyAt, phaseOf, cellsFrom, firstMoment, begun, allRunning}
 use Rattle.rules.specs.Orders.{some, meetsMate}
 use Rattle.rules.specs.Rules.{from, soundStep}
+use Rattle.rules.proofs.Laws.Meet.{is-false}
 use Rattle.rules.proofs.Laws.Orders.{never, Under, empty, both, meets-under, within-under}
 use Rattle.rules.proofs.Laws.Adding.{joins, Joins, joins-tests, alone, empty-sound}
 use Rattle.planner.specs.Picks.{vmsIn, nodesIn, away, moving, canGo, otherGoes, useful, orElse, pivotAmong, pivotFirst, pivotStep}
 use Rattle.planner.specs.Inner.{aside, pivotNode, comer, comesTo, usefulNode}
 
 -- ---- small words
-
-is-false : (a : Bool) → (a ≡ true → ⊥) → a ≡ false
-is-false true n = absurd (n refl)
-is-false false n = refl
 
 some-more : {A : Type 0} (p q : A → Bool) → ((x : A) → p x ≡ true → q x ≡ true) → (xs : List A) → some p xs ≡ true → some q xs ≡ true
 unfolding some

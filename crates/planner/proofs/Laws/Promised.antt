@@ -39,7 +39,7 @@ use Rattle.planner.specs.declared.answer.Made.{Made}
 use Rattle.planner.specs.declared.answer.BuildFault.{BuildFault}
 use Rattle.planner.specs.declared.answer.Answer.{Answer}
 use Rattle.planner.specs.declared.answer.Answer.the-variants.{Plan, Blocked, Refused}
-use Rattle.planner.proofs.Laws.Budget.{budget, budget-none, budget-most, budget-511, picks-steps, picks-sound, picks-ends, picks-moves, picks-count, picks-shaped}
+use Rattle.planner.proofs.Laws.Budget.{not-empty, budget, budget-none, budget-most, budget-511, picks-steps, picks-sound, picks-ends, picks-moves, picks-count, picks-shaped}
 use Rattle.planner.proofs.Laws.Direct.{direct-none}
 use Rattle.planner.proofs.Laws.Packing.{plan-packs, blocked-packs}
 use Rattle.planner.proofs.Laws.Pivots.{no-pivot}
@@ -70,9 +70,6 @@ home-each room places k (suc n) v e h l =
     (λ q. home-each room places (suc k) n v (and-right (eqb (placeOf places k) (placeOf (targetOf room) k)) _ e) (omega arith) (omega arith))
 
 -- ---- where the planner rests
-
-not-empty : {A : Type 0} (x : A) (xs : List A) → (x ∷ xs) ≡ [] → ⊥
-not-empty x xs e = let l = ap length e in omega arith
 
 -- where there is no next step no direct move is sound and no pivot is useful
 pub rest-stuck : (room : Room) (places : Placement) → nextStep room places ≡ [] → home room places ≡ false → Stuck room places

@@ -29,6 +29,7 @@ use Rattle.rules.proofs.Laws.Adding.{joins, Joins, joins-tests, empty-sound, al
 use Rattle.rules.proofs.Laws.Fit.{held-at, running-is}
 use Rattle.rules.proofs.Laws.Places.{target-at}
 use Rattle.rules.proofs.Laws.Sound.{sound-named, all-more}
+use Rattle.rules.proofs.Laws.Targets.{no-moves, dests-none}
 use Rattle.planner.specs.Picks.{moving, direct, away, joined, joinedAll, directStep, vmsIn}
 use Rattle.planner.specs.Inner.{Light, joinsIn, goalOf}
 use Rattle.planner.proofs.Laws.Joining.{with-is, dests-longer, dests-above, joins-is, longer-sound}
@@ -46,14 +47,6 @@ pub record Directing (s places dests : List ℕ) (v : ℕ) (sums : List Tally) :
   pub cpu-most : (d : ℕ) → getD sums d emptyTally .cpu ≤ (vmCount s + v) * 65536
 
 -- ---- the start: nobody joined, all VMs at rest
-
-no-moves : (s places : List ℕ) → named (roomOf s) (held s places) 0 [] ≡ true
-unfolding named
-no-moves s places = refl
-
-dests-none : destsFrom [] ≡ replicate 256 64
-unfolding destsFrom
-dests-none = refl
 
 -- the sums at rest are the tallies of the step without moves
 pub rest-tally : (s places dests : List ℕ) (sums : List Tally) (d : ℕ) → dests ≡ replicate 256 64 → Loads s places dests sums → clusterCheck s ≡ Whole → d < 64 →
@@ -81,9 +74,13 @@ directing-start s places dests sums e l w =
 
 -- ---- one VM
 
-left-cons : (n v : ℕ) → v < n → from v (n - v) ≡ v ∷ from (v + 1) (n - (v + 1))
+pub left-cons : (n v : ℕ) → v < n → from v (n - v) ≡ v ∷ from (v + 1) (n - (v + 1))
 unfolding from
 left-cons n v h = let e : n - v ≡ suc (n - suc v) = omega arith in rw (e, add-one)
+
+pub left-none : (n v : ℕ) → n ≤ v → from v (n - v) ≡ []
+unfolding from
+left-none n v h = let z : n - v ≡ 0 = omega arith in rw z
 
 -- one sum replaced
 module _ (sums : List Tally) (t : ℕ) (sum : Tally) (z : length sums ≡ 65) (h : t < 65) where

@@ -25,7 +25,7 @@ longer step v d = step ++ (record { vm = v; to = d } ∷ [])
 
 -- ---- being mates is symmetric
 
-eqb-sym : (v w : ℕ) → eqb v w ≡ eqb w v
+pub eqb-sym : (v w : ℕ) → eqb v w ≡ eqb w v
 eqb-sym v w = bool-iff (eqb v w) (eqb w v) (λ e. eq-eqb w v (sym (eqb-true v w e))) (λ e. eq-eqb v w (sym (eqb-true w v e)))
 
 spreads-sym : (v w : ℕ) (ks : List Constraint) → some (spreads v w) ks ≡ some (spreads w v) ks

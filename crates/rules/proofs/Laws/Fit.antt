@@ -71,7 +71,7 @@ fits-end s plan at i n sums result q inv h =
 
 -- ---- the destinations of an array are those of the step
 
-dests-length : (step : Step) → length (destsFrom step) ≡ 256
+pub dests-length : (step : Step) → length (destsFrom step) ≡ 256
 unfolding destsFrom
 dests-length [] = simp length-replicate
 dests-length (move ∷ moves) = length-set (destsFrom moves) (move .vm) (move .to) ∙ dests-length moves

@@ -42,7 +42,7 @@ neither : (a b : Bool) → (a || b) ≡ false → (a ≡ false) × (b ≡ false)
 neither true b e = never e
 neither false b e = (refl, e)
 
-is-false : (a : Bool) → (a ≡ true → ⊥) → a ≡ false
+pub is-false : (a : Bool) → (a ≡ true → ⊥) → a ≡ false
 is-false true n = absurd (n refl)
 is-false false n = refl
 

@@ -82,11 +82,11 @@ unfolding allRunning cellsFrom phaseOf begun
 idle-running places v zero = refl
 idle-running places v (suc n) = rw (idle-running places (suc v) n)
 
-no-moves : (s places : List ℕ) → named (roomOf s) (held s places) 0 [] ≡ true
+pub no-moves : (s places : List ℕ) → named (roomOf s) (held s places) 0 [] ≡ true
 unfolding named
 no-moves s places = refl
 
-dests-none : destsFrom [] ≡ replicate 256 64
+pub dests-none : destsFrom [] ≡ replicate 256 64
 unfolding destsFrom
 dests-none = refl
 
