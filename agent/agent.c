@@ -1,0 +1,191 @@
+/* A small agent: plans for a cluster, has the plan checked, and writes it.
+ *
+ *     agent [--keep-blocked] CLUSTER PLAN-OUT
+ *
+ * CLUSTER is a file with a cluster record. PLAN-OUT gets the plan record, if there is a plan; with
+ * --keep-blocked also the steps made before the planner was blocked. What was built goes through the checker
+ * before it is written. A file that could not be written whole is no plan record: the checker refuses it.
+ *
+ * Exit status:
+ *   0  a plan was made and written
+ *   1  blocked: the planner found no next step (this does not say that no plan exists)
+ *   2  refused: the cluster record is damaged, or its target cannot be
+ *   3  a file cannot be read or written
+ *   4  wrong usage
+ *   5  planner and checker disagree: a fault of the libraries; nothing is written
+ */
+#include <errno.h>
+#include <inttypes.h>
+#include <stdio.h>
+#include <string.h>
+
+#include "kobdrieft.h"
+
+enum status { PLANNED = 0, BLOCKED = 1, REFUSED = 2, FILE_FAULT = 3, USAGE = 4, DISAGREE = 5 };
+
+/* One byte more than a record may have, so that a longer file gets the library's own number. */
+#define LENT_MOST (KOB_MAX_CLUSTER_BYTES + 1)
+
+struct options {
+    const char *cluster;
+    const char *plan;
+    int keep_blocked;
+};
+
+struct cluster {
+    uint8_t bytes[LENT_MOST];
+    size_t len;
+};
+
+/* What `build` gave: its result, and its record at the front of a buffer. */
+struct built {
+    uint64_t result;
+    uint8_t bytes[KOB_BUILD_BUFFER];
+    size_t len;
+};
+
+static int usage(void)
+{
+    fprintf(stderr, "usage: agent [--keep-blocked] CLUSTER PLAN-OUT\n");
+    return USAGE;
+}
+
+/* Whether the arguments are right; then the options are set. */
+static int parse(int argc, char **argv, struct options *options)
+{
+    const char *files[2] = {NULL, NULL};
+    int count = 0;
+    options->keep_blocked = 0;
+    for (int i = 1; i < argc; i++) {
+        if (strcmp(argv[i], "--keep-blocked") == 0)
+            options->keep_blocked = 1;
+        else if (strncmp(argv[i], "--", 2) == 0 || count == 2)
+            return 0;
+        else
+            files[count++] = argv[i];
+    }
+    options->cluster = files[0];
+    options->plan = files[1];
+    return count == 2;
+}
+
+static int file_fault(const char *verb, const char *path, int error)
+{
+    fprintf(stderr, "agent: cannot %s %s: %s\n", verb, path, strerror(error));
+    return 0;
+}
+
+/* Reads a file to its end, or to one byte past the longest record. */
+static int read_cluster(const char *path, struct cluster *cluster)
+{
+    FILE *file = fopen(path, "rb");
+    if (file == NULL)
+        return file_fault("read", path, errno);
+    errno = 0;
+    cluster->len = fread(cluster->bytes, 1, sizeof cluster->bytes, file);
+    int whole = !ferror(file);
+    int error = errno;
+    fclose(file);
+    return whole ? 1 : file_fault("read", path, error);
+}
+
+static int write_plan(const char *path, const struct built *built)
+{
+    FILE *file = fopen(path, "wb");
+    if (file == NULL)
+        return file_fault("write", path, errno);
+    errno = 0;
+    int whole = fwrite(built->bytes, 1, built->len, file) == built->len;
+    int error = errno;
+    if (fclose(file) != 0 && whole) {
+        whole = 0;
+        error = errno;
+    }
+    return whole ? 1 : file_fault("write", path, error);
+}
+
+/* Plans. A refusal leaves no record, so its length is 0. */
+static void plan_for(const struct cluster *cluster, struct built *built)
+{
+    built->result = kob_build(cluster->bytes, cluster->len, built->bytes, sizeof built->bytes);
+    built->len = kob_outcome_of(built->result) == KOB_REFUSED ? 0 : kob_plan_length(built->bytes);
+}
+
+/* Whether the checker says of what was built what it must. */
+static int agrees(const struct cluster *cluster, const struct built *built)
+{
+    if (built->len > sizeof built->bytes)
+        return 0;
+    uint64_t verdict = kob_check(cluster->bytes, cluster->len, built->bytes, built->len);
+    switch (kob_outcome_of(built->result)) {
+    case KOB_PLAN:
+        return kob_outcome_of(verdict) == KOB_ACCEPTED && kob_cost(verdict) == kob_cost(built->result);
+    case KOB_BLOCKED:
+        return kob_refusal_number(verdict) == KOB_FAULT_OFF_TARGET && kob_refusal_step(verdict) == 0;
+    case KOB_REFUSED: /* faults of the cluster, 1 to 9, are found by both */
+        return verdict == built->result && kob_refusal_number(verdict) <= KOB_FAULT_TARGET_BROKEN;
+    default:
+        return 0;
+    }
+}
+
+static void print_made(uint64_t result)
+{
+    printf("steps %u, moves %u, cost %" PRIu64, kob_steps(result), kob_moves(result), kob_cost(result));
+}
+
+static int end_planned(const struct options *options, const struct built *built)
+{
+    if (!write_plan(options->plan, built))
+        return FILE_FAULT;
+    printf("agent: plan: ");
+    print_made(built->result);
+    printf("; written to %s\n", options->plan);
+    return PLANNED;
+}
+
+static int end_blocked(const struct options *options, const struct built *built)
+{
+    if (options->keep_blocked && !write_plan(options->plan, built))
+        return FILE_FAULT;
+    printf("agent: blocked: ");
+    print_made(built->result);
+    if (options->keep_blocked)
+        printf("; these steps written to %s\n", options->plan);
+    else
+        printf("; nothing written\n");
+    return BLOCKED;
+}
+
+static int end_refused(const struct built *built)
+{
+    unsigned number = kob_refusal_number(built->result);
+    printf("agent: refused, number %u: %s; nothing written\n", number, kob_fault_text(number));
+    return REFUSED;
+}
+
+static int end_disagree(const struct built *built)
+{
+    fprintf(stderr, "agent: planner and checker disagree (result %016" PRIx64 "); nothing written\n",
+            built->result);
+    return DISAGREE;
+}
+
+int main(int argc, char **argv)
+{
+    static struct cluster cluster;
+    static struct built built;
+    struct options options;
+    if (!parse(argc, argv, &options))
+        return usage();
+    if (!read_cluster(options.cluster, &cluster))
+        return FILE_FAULT;
+    plan_for(&cluster, &built);
+    if (!agrees(&cluster, &built))
+        return end_disagree(&built);
+    if (kob_outcome_of(built.result) == KOB_PLAN)
+        return end_planned(&options, &built);
+    if (kob_outcome_of(built.result) == KOB_BLOCKED)
+        return end_blocked(&options, &built);
+    return end_refused(&built);
+}

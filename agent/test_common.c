@@ -1,0 +1,181 @@
+/* Counting, and the records that the test programs use. */
+#include <stdio.h>
+
+#include "test.h"
+
+static int passed, failed, any_failed;
+
+void expect(int good, const char *what)
+{
+    if (good) {
+        passed++;
+        return;
+    }
+    failed++;
+    any_failed = 1;
+    fprintf(stderr, "failed: %s\n", what);
+}
+
+void group(const char *name)
+{
+    printf("%s: %d passed, %d failed\n", name, passed, failed);
+    fflush(stdout);
+    passed = failed = 0;
+}
+
+int status(void)
+{
+    return any_failed;
+}
+
+const uint8_t cluster_a[40] = {
+    1, 0, 0, 0, 40, 0, 3, 0, 2, 0, 0,                  /* header: 3 nodes, 2 VMs, no constraint */
+    0, 0, 4, 0, 100, 0, 0, 4, 0, 100, 0, 0, 4, 0, 100, /* nodes: memory 4, CPU 100 */
+    0, 0, 3, 0, 50, 0, 1, 0, 0, 2, 0, 50, 1, 0         /* VM 0 from 0 to 1, VM 1 from 1 to 0 */
+};
+
+const uint8_t plan_a[19] = {1, 0, 0, 0, 19, 0, 3, 0, 1, 0, 2, 0, 1, 1, 0, 0, 1, 0, 1};
+
+/* ---- writing records */
+
+/* Appends a number of so many bytes, big-endian. */
+static void put(struct record *record, unsigned bytes, uint32_t number)
+{
+    while (bytes-- > 0)
+        record->bytes[record->len++] = (uint8_t)(number >> 8 * bytes);
+}
+
+static void put_header(struct record *cluster, uint32_t nodes, uint32_t vms, uint32_t constraints)
+{
+    cluster->len = 0;
+    put(cluster, 1, 1);
+    put(cluster, 4, 0);
+    put(cluster, 2, nodes);
+    put(cluster, 2, vms);
+    put(cluster, 2, constraints);
+}
+
+static void put_node(struct record *cluster, uint32_t memory, uint32_t cpu)
+{
+    put(cluster, 3, memory);
+    put(cluster, 2, cpu);
+}
+
+static void put_vm(struct record *cluster, uint32_t memory, uint32_t cpu, uint32_t current, uint32_t target)
+{
+    put(cluster, 3, memory);
+    put(cluster, 2, cpu);
+    put(cluster, 1, current);
+    put(cluster, 1, target);
+}
+
+/* States the whole length. */
+static void finish(struct record *record)
+{
+    size_t end = record->len;
+    record->len = 1;
+    put(record, 4, (uint32_t)end);
+    record->len = end;
+}
+
+/* ---- the full room and its plan */
+
+static void put_rising(struct record *cluster, uint32_t count)
+{
+    for (uint32_t i = 0; i < count; i++)
+        put(cluster, 1, i);
+}
+
+/* A latency of all VMs with 64 groups: all nodes in the first, none in the others. */
+static void put_latency(struct record *cluster)
+{
+    put(cluster, 2, 1 + 2 + 256 + 1 + 65 + 63);
+    put(cluster, 1, 4);
+    put(cluster, 2, 256);
+    put_rising(cluster, 256);
+    put(cluster, 1, 64);
+    put(cluster, 1, 64);
+    put_rising(cluster, 64);
+    for (int i = 1; i < 64; i++)
+        put(cluster, 1, 0);
+}
+
+void full_room(struct record *cluster)
+{
+    put_header(cluster, KOB_MAX_NODES, KOB_MAX_VMS, KOB_MAX_CONSTRAINTS);
+    for (int i = 0; i < KOB_MAX_NODES; i++)
+        put_node(cluster, 16777215, 65535);
+    for (uint32_t i = 0; i < KOB_MAX_VMS; i++)
+        put_vm(cluster, 1, 1, i % 64, (i + 1) % 64);
+    for (int i = 0; i < KOB_MAX_CONSTRAINTS; i++)
+        put_latency(cluster);
+    finish(cluster);
+}
+
+static void put_move(struct record *plan, uint32_t vm, uint32_t destination)
+{
+    put(plan, 1, vm);
+    put(plan, 1, destination);
+}
+
+/* First all VMs but VM 0 go home. Then VM 0 goes to and fro, 511 times, and VM 1 with it 258 times. */
+void full_plan(struct record *plan)
+{
+    plan->len = 0;
+    put(plan, 1, 1);
+    put(plan, 4, 0);
+    put(plan, 2, KOB_MAX_STEPS);
+    put(plan, 2, 255);
+    for (uint32_t i = 1; i < KOB_MAX_VMS; i++)
+        put_move(plan, i, (i + 1) % 64);
+    for (uint32_t i = 0; i < KOB_MAX_STEPS - 1; i++) {
+        put(plan, 2, i < 258 ? 2 : 1);
+        put_move(plan, 0, i % 2 == 0 ? 1 : 0);
+        if (i < 258)
+            put_move(plan, 1, i % 2 == 0 ? 3 : 2);
+    }
+    finish(plan);
+}
+
+/* ---- the chains */
+
+/* Four chains, one after the other. In each a walker goes from node 0 over the nodes 1 to 61 and 63 to node
+ * 62; wherever it steps aside, a follower comes from the next node. A follower needs more than the one
+ * before it left, so it cannot come while the walker is there. */
+#define LINKS 62
+
+static uint32_t walker(uint32_t chain)
+{
+    return 100000 - chain;
+}
+
+static uint32_t follower(uint32_t chain, uint32_t from)
+{
+    return 100000 + 100 * (chain + 1) + from;
+}
+
+/* What a node bears: its VMs at the start, and just the first walker beside them. */
+static uint32_t bears(uint32_t node)
+{
+    uint32_t sum = 0;
+    for (uint32_t chain = 0; chain < 4; chain++)
+        sum += node == 0 ? walker(chain) : node <= LINKS ? follower(chain, node) : 1;
+    if (node == 0)
+        return sum + 2000;
+    return node == LINKS ? sum : sum + walker(0);
+}
+
+void chains(struct record *cluster)
+{
+    put_header(cluster, KOB_MAX_NODES, KOB_MAX_VMS, 0);
+    for (uint32_t node = 0; node < KOB_MAX_NODES; node++)
+        put_node(cluster, bears(node), 0);
+    for (uint32_t chain = 0; chain < 4; chain++) {
+        put_vm(cluster, walker(chain), 0, 0, LINKS);
+        for (uint32_t from = 1; from <= LINKS; from++)
+            put_vm(cluster, follower(chain, from), 0, from, from - 1);
+    }
+    for (int i = 0; i < 4; i++)
+        put_vm(cluster, 1, 0, 63, 63);
+    finish(cluster);
+}

@@ -1,0 +1,379 @@
+/* Tests of kobdrieft.h, and of the two libraries as C sees them. */
+#define _DEFAULT_SOURCE
+#include <stdio.h>
+#include <stdlib.h>
+#include <string.h>
+#include <sys/mman.h>
+#include <unistd.h>
+
+#include "test.h"
+
+#define FILL 0x5a
+
+static uint64_t refused(unsigned number, unsigned step)
+{
+    return (uint64_t)2 << 62 | (uint64_t)number << 16 | step;
+}
+
+static uint64_t made(unsigned outcome, unsigned steps, unsigned moves, uint64_t cost)
+{
+    return (uint64_t)outcome << 62 | (uint64_t)steps << 53 | (uint64_t)moves << 44 | cost;
+}
+
+/* Whether all these bytes have one value. */
+static int all_are(const uint8_t *bytes, size_t len, uint8_t value)
+{
+    for (size_t i = 0; i < len; i++)
+        if (bytes[i] != value)
+            return 0;
+    return 1;
+}
+
+/* ---- unpackers and texts */
+
+static void test_unpackers(void)
+{
+    uint64_t most = ((uint64_t)1 << 44) - 1;
+    uint64_t plan = made(0, 511, 511, most);
+    uint64_t blocked = made(1, 1, 2, 3);
+    uint64_t refusal = refused(17, 512);
+    expect(kob_outcome_of(plan) == KOB_PLAN && kob_outcome_of(plan) == KOB_ACCEPTED, "outcome of a plan");
+    expect(kob_steps(plan) == 511 && kob_moves(plan) == 511 && kob_cost(plan) == most, "numbers of a plan");
+    expect(kob_refusal_number(plan) == 0 && kob_refusal_step(plan) == 0, "a plan has no refusal");
+    expect(kob_outcome_of(blocked) == KOB_BLOCKED, "outcome of blocked");
+    expect(kob_steps(blocked) == 1, "steps of blocked");
+    expect(kob_moves(blocked) == 2, "moves of blocked");
+    expect(kob_cost(blocked) == 3, "cost of blocked");
+    expect(kob_refusal_number(blocked) == 0 && kob_refusal_step(blocked) == 0, "blocked has no refusal");
+    expect(kob_outcome_of(refusal) == KOB_REFUSED, "outcome of a refusal");
+    expect(kob_refusal_number(refusal) == KOB_FAULT_MISFIT, "number of a refusal");
+    expect(kob_refusal_step(refusal) == 512, "step of a refusal");
+    expect(kob_steps(refusal) == 0 && kob_moves(refusal) == 0, "a refusal has no steps");
+    expect(kob_cost(refusal) == 0, "a refusal has no cost");
+    expect(kob_outcome_of(0) == KOB_PLAN && kob_cost(0) == 0 && kob_steps(0) == 0, "the empty plan");
+    expect(kob_cost(16) == 16 && kob_steps(16) == 0 && kob_moves(16) == 0, "an accepted plan");
+    expect(kob_plan_length(plan_a) == 19, "length in a header");
+    expect(kob_plan_length((const uint8_t *)"\1\1\2\3\4") == 0x01020304, "length in big-endian");
+    group("unpackers");
+}
+
+/* A line: some characters, none of them a line end. */
+static int is_line(const char *text)
+{
+    return strlen(text) > 8 && strchr(text, '\n') == NULL;
+}
+
+static void test_texts(void)
+{
+    for (unsigned number = 0; number <= 19; number++) {
+        int differs = 1;
+        for (unsigned other = 0; other < number; other++)
+            differs = differs && strcmp(kob_fault_text(number), kob_fault_text(other)) != 0;
+        expect(is_line(kob_fault_text(number)) && differs, "a text for each number");
+    }
+    expect(strstr(kob_fault_text(KOB_FAULT_CLUSTER_SHORT), "11 bytes") != NULL, "text 1");
+    expect(strstr(kob_fault_text(KOB_FAULT_BUFFER_SHORT), "2,051") != NULL, "text 10");
+    expect(strstr(kob_fault_text(KOB_FAULT_OFF_TARGET), "off its target") != NULL, "text 19");
+    expect(strcmp(kob_fault_text(20), "unknown number") == 0, "text of 20");
+    expect(strcmp(kob_fault_text(~0u), "unknown number") == 0, "text of the largest number");
+    group("texts");
+}
+
+/* ---- lengths of 0 */
+
+static void test_empty(void)
+{
+    uint8_t out[KOB_BUILD_BUFFER];
+    uint8_t *nowhere = (uint8_t *)(uintptr_t)1;
+    memset(out, FILL, sizeof out);
+    expect(kob_check(NULL, 0, NULL, 0) == refused(1, 0), "check, both NULL");
+    expect(kob_check(NULL, 0, plan_a, sizeof plan_a) == refused(1, 0), "check, cluster NULL");
+    expect(kob_check(cluster_a, sizeof cluster_a, NULL, 0) == refused(11, 0), "check, plan NULL");
+    expect(kob_check(cluster_a, sizeof cluster_a, nowhere, 0) == refused(11, 0), "check, plan nowhere");
+    expect(kob_build(NULL, 0, NULL, 0) == refused(1, 0), "build, both NULL");
+    expect(kob_build(NULL, 0, out, sizeof out) == refused(1, 0), "build, cluster NULL");
+    expect(kob_build(cluster_a, sizeof cluster_a, NULL, 0) == refused(10, 0), "build, buffer NULL");
+    expect(kob_build(cluster_a, sizeof cluster_a, nowhere, 0) == refused(10, 0), "build, buffer nowhere");
+    expect(all_are(out, sizeof out, FILL), "refusals write nothing");
+    group("length 0");
+}
+
+/* ---- cluster A, in allocations of exactly the stated sizes */
+
+/* A copy in an allocation of just its size. */
+static uint8_t *copy(const uint8_t *bytes, size_t len)
+{
+    uint8_t *copied = malloc(len);
+    if (copied == NULL)
+        exit(1);
+    memcpy(copied, bytes, len);
+    return copied;
+}
+
+static uint8_t *filled(size_t len)
+{
+    uint8_t *bytes = malloc(len);
+    if (bytes == NULL)
+        exit(1);
+    memset(bytes, FILL, len);
+    return bytes;
+}
+
+static void test_build_a(void)
+{
+    uint8_t *cluster = copy(cluster_a, sizeof cluster_a);
+    uint8_t *out = filled(KOB_BUILD_BUFFER);
+    uint64_t result = kob_build(cluster, sizeof cluster_a, out, KOB_BUILD_BUFFER);
+    expect(result == made(KOB_PLAN, 3, 3, 16), "A: a plan of 3 steps, 3 moves, cost 16");
+    expect(memcmp(out, plan_a, sizeof plan_a) == 0, "A: the record of 19 bytes");
+    expect(all_are(out + 19, KOB_BUILD_BUFFER - 19, FILL), "A: the bytes behind it stay");
+    expect(memcmp(cluster, cluster_a, sizeof cluster_a) == 0, "A: the cluster stays");
+    expect(kob_check(cluster, sizeof cluster_a, out, kob_plan_length(out)) == 16, "A: accepted at 16");
+    expect(kob_check(cluster, sizeof cluster_a, out, KOB_BUILD_BUFFER) == refused(13, 0), "A: whole buffer");
+    free(cluster);
+    free(out);
+}
+
+static void test_short_buffer(void)
+{
+    uint8_t *out = filled(KOB_BUILD_BUFFER - 1);
+    uint64_t result = kob_build(cluster_a, sizeof cluster_a, out, KOB_BUILD_BUFFER - 1);
+    expect(result == refused(KOB_FAULT_BUFFER_SHORT, 0), "A: 2,050 bytes give 10");
+    expect(all_are(out, KOB_BUILD_BUFFER - 1, FILL), "A: 2,050 bytes stay");
+    free(out);
+}
+
+/* The verdict on a plan for A, both in allocations of just their size. */
+static uint64_t verdict_on_a(const uint8_t *bytes, size_t len)
+{
+    uint8_t *cluster = copy(cluster_a, sizeof cluster_a);
+    uint8_t *plan = copy(bytes, len);
+    uint64_t verdict = kob_check(cluster, sizeof cluster_a, plan, len);
+    free(cluster);
+    free(plan);
+    return verdict;
+}
+
+static void test_verdicts(void)
+{
+    static const uint8_t none[] = {1, 0, 0, 0, 7, 0, 0};
+    static const uint8_t both[] = {1, 0, 0, 0, 13, 0, 1, 0, 2, 0, 1, 1, 0};
+    static const uint8_t stays[] = {1, 0, 0, 0, 11, 0, 1, 0, 1, 0, 0};
+    static const uint8_t version[] = {2, 0, 0, 0, 7, 0, 0};
+    static const uint8_t counts[] = {1, 0, 0, 0, 7, 0, 1};
+    expect(verdict_on_a(plan_a, sizeof plan_a) == 16, "A: its plan");
+    expect(verdict_on_a(none, sizeof none) == refused(19, 0), "A: no steps");
+    expect(verdict_on_a(both, sizeof both) == refused(17, 1), "A: both moves in one step");
+    expect(verdict_on_a(stays, sizeof stays) == refused(15, 1), "A: VM 0 to node 0");
+    expect(verdict_on_a(none, 6) == refused(11, 0), "A: a plan of 6 bytes");
+    expect(verdict_on_a(version, sizeof version) == refused(12, 0), "A: plan version 2");
+    expect(verdict_on_a(plan_a, 18) == refused(13, 0), "A: a plan cut short");
+    expect(verdict_on_a(counts, sizeof counts) == refused(14, 0), "A: a step that is not there");
+}
+
+static void test_blocked(void)
+{
+    uint8_t *cluster = copy(cluster_a, sizeof cluster_a);
+    uint8_t *out = filled(KOB_BUILD_BUFFER);
+    cluster[23] = 1; /* node 2's memory */
+    uint64_t result = kob_build(cluster, sizeof cluster_a, out, KOB_BUILD_BUFFER);
+    expect(result == made(KOB_BLOCKED, 0, 0, 0), "blocked");
+    expect(memcmp(out, "\1\0\0\0\7\0\0", 7) == 0, "blocked: a record of no steps");
+    expect(all_are(out + 7, KOB_BUILD_BUFFER - 7, FILL), "blocked: the bytes behind it stay");
+    expect(kob_check(cluster, sizeof cluster_a, out, 7) == refused(19, 0), "blocked: refused 19, step 0");
+    free(cluster);
+    free(out);
+}
+
+static void test_cluster_a(void)
+{
+    test_build_a();
+    test_short_buffer();
+    test_verdicts();
+    test_blocked();
+    group("cluster A");
+}
+
+/* ---- records that lie against inaccessible pages */
+
+/* Pages with an inaccessible one on either side. */
+struct fenced {
+    uint8_t *front;
+    size_t size;
+};
+
+enum side { FRONT, BACK };
+
+static void must(int good, const char *what)
+{
+    if (!good) {
+        perror(what);
+        exit(1);
+    }
+}
+
+static struct fenced fence(size_t least)
+{
+    size_t page = (size_t)sysconf(_SC_PAGESIZE);
+    size_t size = (least + page - 1) / page * page;
+    uint8_t *all = mmap(NULL, size + 2 * page, PROT_NONE, MAP_PRIVATE | MAP_ANONYMOUS, -1, 0);
+    must(all != MAP_FAILED, "mmap");
+    struct fenced fenced = {all + page, size};
+    return fenced;
+}
+
+/* Room for so many bytes that begin, or end, at an inaccessible page. */
+static uint8_t *at(const struct fenced *fenced, enum side side, size_t len)
+{
+    must(mprotect(fenced->front, fenced->size, PROT_READ | PROT_WRITE) == 0, "mprotect");
+    return side == FRONT ? fenced->front : fenced->front + fenced->size - len;
+}
+
+/* The same with a copy of these bytes, not to be written. */
+static const uint8_t *lend(const struct fenced *fenced, enum side side, const uint8_t *bytes, size_t len)
+{
+    uint8_t *place = at(fenced, side, len);
+    memcpy(place, bytes, len);
+    must(mprotect(fenced->front, fenced->size, PROT_READ) == 0, "mprotect");
+    return place;
+}
+
+static struct fenced cluster_fence, plan_fence;
+
+/* Whether `check` gives the same against the pages, each record at either side, as in plain memory. */
+static int check_stays(const uint8_t *cluster, size_t cluster_len, const uint8_t *plan, size_t plan_len)
+{
+    uint64_t plain = kob_check(cluster, cluster_len, plan, plan_len);
+    int same = 1;
+    for (int sides = 0; sides < 4; sides++) {
+        const uint8_t *c = lend(&cluster_fence, sides & 1 ? BACK : FRONT, cluster, cluster_len);
+        const uint8_t *p = lend(&plan_fence, sides & 2 ? BACK : FRONT, plan, plan_len);
+        same = same && check(c, cluster_len, p, plan_len) == plain;
+    }
+    return same;
+}
+
+/* Whether `build` into so many bytes gives the same against the pages as in plain memory, bytes included. */
+static int build_stays(const uint8_t *cluster, size_t cluster_len, size_t out_len)
+{
+    uint8_t *plain = filled(out_len + 1);
+    uint64_t result = kob_build(cluster, cluster_len, plain, out_len);
+    int same = plain[out_len] == FILL;
+    for (int sides = 0; sides < 4; sides++) {
+        const uint8_t *c = lend(&cluster_fence, sides & 1 ? BACK : FRONT, cluster, cluster_len);
+        uint8_t *out = at(&plan_fence, sides & 2 ? BACK : FRONT, out_len);
+        memset(plan_fence.front, FILL, plan_fence.size);
+        same = same && build(c, cluster_len, out, out_len) == result && memcmp(out, plain, out_len) == 0;
+        size_t before = (size_t)(out - plan_fence.front);
+        same = same && all_are(plan_fence.front, before, FILL);
+        same = same && all_are(out + out_len, plan_fence.size - before - out_len, FILL);
+    }
+    free(plain);
+    return same;
+}
+
+/* A and its plan, cut at every length. */
+static void test_cut(void)
+{
+    for (size_t len = 0; len <= sizeof cluster_a; len++) {
+        expect(check_stays(cluster_a, len, plan_a, sizeof plan_a), "check of A, cut");
+        expect(build_stays(cluster_a, len, KOB_BUILD_BUFFER), "build of A, cut");
+    }
+    for (size_t len = 0; len <= sizeof plan_a; len++)
+        expect(check_stays(cluster_a, sizeof cluster_a, plan_a, len), "check of A's plan, cut");
+    for (size_t len = 0; len <= KOB_BUILD_BUFFER + 1; len += len < 2040 ? 17 : 1)
+        expect(build_stays(cluster_a, sizeof cluster_a, len), "build of A into a buffer of any length");
+}
+
+/* The largest records there are. */
+static void test_large(void)
+{
+    static struct record room, plan, long_room, over;
+    full_room(&room);
+    full_plan(&plan);
+    chains(&long_room);
+    expect(room.len == 52043 && plan.len == KOB_MAX_PLAN_BYTES, "the full records' lengths");
+    expect(kob_check(room.bytes, room.len, plan.bytes, plan.len) == FULL_PLAN_COST, "the full plan's cost");
+    expect(check_stays(room.bytes, room.len, plan.bytes, plan.len), "check of the full plan");
+    expect(build_stays(room.bytes, room.len, KOB_BUILD_BUFFER), "build of the full room");
+    expect(build_stays(long_room.bytes, long_room.len, KOB_BUILD_BUFFER), "build of the chains");
+    for (size_t len = 1; len < room.len; len += 1009)
+        expect(build_stays(room.bytes, len, KOB_BUILD_BUFFER), "build of the full room, cut");
+    memcpy(over.bytes, "\1\0\1\0\0", 5);
+    expect(kob_check(over.bytes, 65536, plan.bytes, plan.len) == refused(3, 0), "65,536 bytes give 3");
+    expect(build_stays(over.bytes, 65536, KOB_BUILD_BUFFER), "build of 65,536 bytes");
+}
+
+/* The next number of a fixed series (xorshift). */
+static uint32_t draw(void)
+{
+    static uint32_t state = 2463534242u;
+    state ^= state << 13;
+    state ^= state >> 17;
+    state ^= state << 5;
+    return state;
+}
+
+/* Changes one to three bytes. */
+static void damage(uint8_t *bytes, size_t len)
+{
+    for (uint32_t left = 1 + draw() % 3; left > 0; left--)
+        bytes[draw() % len] = draw() % 2 == 0 ? (uint8_t)draw() : (uint8_t)(draw() % 4);
+}
+
+/* A and its plan with bytes changed, the stated lengths among them. */
+static void test_damaged(void)
+{
+    int check_good = 1, build_good = 1;
+    for (int i = 0; i < 5000; i++) {
+        uint8_t cluster[sizeof cluster_a], plan[sizeof plan_a];
+        memcpy(cluster, cluster_a, sizeof cluster);
+        memcpy(plan, plan_a, sizeof plan);
+        damage(plan, sizeof plan);
+        check_good = check_good && check_stays(cluster_a, sizeof cluster, plan, sizeof plan);
+        damage(cluster, sizeof cluster);
+        check_good = check_good && check_stays(cluster, sizeof cluster, plan_a, sizeof plan);
+        build_good = build_good && build_stays(cluster, sizeof cluster, KOB_BUILD_BUFFER);
+    }
+    expect(check_good, "check of 10,000 damaged records");
+    expect(build_good, "build of 5,000 damaged records");
+}
+
+/* The same with the full room: constraints, lists and rows with bytes changed. */
+static void test_damaged_room(void)
+{
+    static struct record room, plan, bad;
+    int good = 1;
+    full_room(&room);
+    full_plan(&plan);
+    for (int i = 0; i < 300; i++) {
+        memcpy(bad.bytes, room.bytes, room.len);
+        damage(bad.bytes + 5, room.len - 5);
+        good = good && build_stays(bad.bytes, room.len, KOB_BUILD_BUFFER);
+        memcpy(bad.bytes, plan.bytes, plan.len);
+        damage(bad.bytes + 5, plan.len - 5);
+        good = good && check_stays(room.bytes, room.len, bad.bytes, plan.len);
+    }
+    expect(good, "300 damaged full rooms and plans");
+}
+
+static void test_pages(void)
+{
+    cluster_fence = fence(KOB_MAX_CLUSTER_BYTES + 1);
+    plan_fence = fence(KOB_MAX_PLAN_BYTES);
+    test_cut();
+    test_large();
+    test_damaged();
+    test_damaged_room();
+    group("against pages");
+}
+
+int main(void)
+{
+    test_unpackers();
+    test_texts();
+    test_empty();
+    test_cluster_a();
+    test_pages();
+    return status();
+}

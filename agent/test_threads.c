@@ -1,0 +1,161 @@
+/* Stack use, by painted stacks, and calls from many threads at once. */
+#define _DEFAULT_SOURCE
+#include <pthread.h>
+#include <stdio.h>
+#include <stdlib.h>
+#include <string.h>
+#include <sys/mman.h>
+
+#include "test.h"
+
+#define PAINT 0xa5
+#define PAINTED (1024 * 1024)
+#define THREADS 8
+#define ROUNDS 20
+
+static struct record room, plan, long_room;
+static uint64_t long_result;
+
+/* ---- stack */
+
+/* A call on a thread of its own, and where its stack begins. */
+struct call {
+    uint64_t (*run)(void);
+    uint64_t result;
+    const volatile char *top;
+};
+
+static uint64_t check_full(void)
+{
+    return kob_check(room.bytes, room.len, plan.bytes, plan.len);
+}
+
+static uint64_t build_full(void)
+{
+    static uint8_t out[KOB_BUILD_BUFFER];
+    return kob_build(room.bytes, room.len, out, sizeof out);
+}
+
+static uint64_t build_long(void)
+{
+    static uint8_t out[KOB_BUILD_BUFFER];
+    return kob_build(long_room.bytes, long_room.len, out, sizeof out);
+}
+
+static void *begin(void *argument)
+{
+    struct call *call = argument;
+    volatile char here = 0;
+    call->top = &here;
+    call->result = call->run();
+    return NULL;
+}
+
+static void on_stack(struct call *call, void *stack)
+{
+    pthread_attr_t attributes;
+    pthread_t thread;
+    int bad = pthread_attr_init(&attributes) || pthread_attr_setstack(&attributes, stack, PAINTED)
+              || pthread_create(&thread, &attributes, begin, call) || pthread_join(thread, NULL);
+    if (bad) {
+        fprintf(stderr, "cannot run a thread on a stack of its own\n");
+        exit(1);
+    }
+    pthread_attr_destroy(&attributes);
+}
+
+/* The bytes from a call's caller down to the deepest one that it changed. */
+static size_t stack_use(struct call *call)
+{
+    unsigned char *stack = mmap(NULL, PAINTED, PROT_READ | PROT_WRITE, MAP_PRIVATE | MAP_ANONYMOUS, -1, 0);
+    if (stack == MAP_FAILED) {
+        perror("mmap");
+        exit(1);
+    }
+    memset(stack, PAINT, PAINTED);
+    on_stack(call, stack);
+    unsigned char *deepest = stack;
+    while (*deepest == PAINT)
+        deepest++;
+    size_t used = (size_t)((const volatile unsigned char *)call->top - deepest);
+    munmap(stack, PAINTED);
+    return used;
+}
+
+static void test_stack(void)
+{
+    struct call checked = {check_full, 0, NULL};
+    struct call built = {build_full, 0, NULL};
+    struct call built_long = {build_long, 0, NULL};
+    size_t check_use = stack_use(&checked);
+    size_t build_use = stack_use(&built);
+    size_t long_use = stack_use(&built_long);
+    expect(checked.result == FULL_PLAN_COST, "the full plan is accepted");
+    expect(kob_outcome_of(built.result) == KOB_PLAN, "the full room is planned");
+    expect(kob_steps(built.result) == 1, "the full room's steps");
+    expect(built_long.result == long_result, "the chains are planned");
+    expect(check_use < KOB_CHECK_STACK, "check keeps to its stack");
+    expect(build_use < KOB_BUILD_STACK, "build keeps to its stack on the full room");
+    /* 511 steps at most, where the chains take 500; a step takes 112 bytes. */
+    expect(long_use + 11 * 112 < KOB_BUILD_STACK, "build keeps to its stack on the chains");
+    printf("stack used: check %zu bytes (512 steps), build %zu (1 step), build %zu (%d steps)\n", check_use,
+           build_use, long_use, CHAIN_STEPS);
+    group("stack");
+}
+
+/* ---- threads */
+
+struct worker {
+    pthread_t thread;
+    uint8_t out[KOB_BUILD_BUFFER];
+    int right;
+};
+
+/* One round: plan and check A, the chains and the full room. All threads read the same clusters. */
+static int round_right(uint8_t *out)
+{
+    uint64_t a = kob_build(cluster_a, sizeof cluster_a, out, KOB_BUILD_BUFFER);
+    int right = kob_cost(a) == 16 && memcmp(out, plan_a, sizeof plan_a) == 0;
+    right = right && kob_check(cluster_a, sizeof cluster_a, out, sizeof plan_a) == 16;
+    right = right && kob_build(long_room.bytes, long_room.len, out, KOB_BUILD_BUFFER) == long_result;
+    uint64_t verdict = kob_check(long_room.bytes, long_room.len, out, kob_plan_length(out));
+    return right && verdict == kob_cost(long_result) && check_full() == FULL_PLAN_COST;
+}
+
+static void *work(void *argument)
+{
+    struct worker *worker = argument;
+    worker->right = 1;
+    for (int i = 0; i < ROUNDS; i++)
+        worker->right = round_right(worker->out) && worker->right;
+    return NULL;
+}
+
+static void test_threads(void)
+{
+    static struct worker workers[THREADS];
+    for (int i = 0; i < THREADS; i++) {
+        if (pthread_create(&workers[i].thread, NULL, work, &workers[i]) != 0) {
+            fprintf(stderr, "cannot start a thread\n");
+            exit(1);
+        }
+    }
+    for (int i = 0; i < THREADS; i++) {
+        pthread_join(workers[i].thread, NULL);
+        expect(workers[i].right, "a thread among others gets the same results");
+    }
+    group("threads");
+}
+
+int main(void)
+{
+    full_room(&room);
+    full_plan(&plan);
+    chains(&long_room);
+    long_result = build_long();
+    expect(kob_outcome_of(long_result) == KOB_PLAN, "the chains are planned");
+    expect(kob_steps(long_result) == CHAIN_STEPS, "the chains' steps");
+    test_stack();
+    test_threads();
+    return status();
+}
