@@ -3,12 +3,15 @@
 //! It favours being obviously right over being fast. Differential tests hold it beside the
 //! verified implementation; nothing here is shared with that implementation.
 
+pub mod draw;
 pub mod edges;
+pub mod form;
 pub mod gen;
 pub mod orders;
 pub mod pack;
 pub mod planner;
 pub mod puzzles;
+pub mod reasons;
 pub mod records;
 pub mod rules;
 pub mod text;

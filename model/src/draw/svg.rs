@@ -1,0 +1,59 @@
+//! The few shapes that the drawing is made of.
+
+/// A box by its left and lower edge, which grows upwards.
+#[derive(Clone, Copy, Debug)]
+pub struct Area {
+    pub left: f64,
+    pub bottom: f64,
+    pub width: f64,
+    pub height: f64,
+}
+
+impl Area {
+    pub fn top(&self) -> f64 {
+        self.bottom - self.height
+    }
+
+    pub fn middle(&self) -> (f64, f64) {
+        (self.left + self.width / 2.0, self.bottom - self.height / 2.0)
+    }
+}
+
+pub fn rect(class: &str, area: Area, inside: &str) -> String {
+    let Area { left, width, height, .. } = area;
+    let top = area.top();
+    format!(
+        "<rect class=\"{class}\" x=\"{left:.1}\" y=\"{top:.1}\" width=\"{width:.1}\" \
+         height=\"{height:.1}\">{inside}</rect>\n"
+    )
+}
+
+pub fn line(class: &str, from: f64, to: f64, y: f64) -> String {
+    format!(
+        "<line class=\"{class}\" x1=\"{from:.1}\" x2=\"{to:.1}\" y1=\"{y:.1}\" y2=\"{y:.1}\"/>\n"
+    )
+}
+
+/// About how wide words come out.
+pub fn width(words: &str, font: f64) -> f64 {
+    words.chars().count() as f64 * font * 0.52
+}
+
+/// A text around a point, pressed together if it is wider than it may be.
+pub fn text(class: &str, (x, y): (f64, f64), font: f64, widest: f64, words: &str) -> String {
+    let press = if width(words, font) > widest {
+        format!(" textLength=\"{widest:.1}\" lengthAdjust=\"spacingAndGlyphs\"")
+    } else {
+        String::new()
+    };
+    format!("<text class=\"{class}\" x=\"{x:.1}\" y=\"{y:.1}\" font-size=\"{font}\"{press}>{words}</text>\n")
+}
+
+/// An arrow from one point to the other, bent upwards.
+pub fn arrow(from: (f64, f64), to: (f64, f64)) -> String {
+    let ((x1, y1), (x2, y2)) = (from, to);
+    let bend = (0.18 * (x2 - x1).abs()).min(50.0);
+    let (x, y) = ((x1 + x2) / 2.0, y1.min(y2) - bend);
+    let way = format!("M {x1:.1} {y1:.1} Q {x:.1} {y:.1} {x2:.1} {y2:.1}");
+    format!("<path class=\"halo\" d=\"{way}\"/>\n<path class=\"arrow\" d=\"{way}\"/>\n")
+}

@@ -1,0 +1,48 @@
+//! Text forms of the two records, for people who write them by hand. A line says one thing; what
+//! stands behind `#` is a remark. Nodes and VMs are numbered by the order of their lines, from 0.
+//!
+//! ```text
+//! node 4 100 x3                       memory, CPU; x3 makes three of them
+//! vm 3 50 from 0 to 1                 memory, CPU, current node, target node; x2 and so on too
+//! ban vms 0 nodes 2                   lists rise; 4-9 is short for 4 5 6 7 8 9
+//! fence vms none nodes 0 1            none is an empty list
+//! spread vms 0 1
+//! latency vms 0 1 groups 0 1 | 2      a group without nodes is empty, no groups at all are none
+//! ```
+//!
+//! A plan is a line for each step, with moves of VM and destination: `step 0 to 1, 1 to 0`.
+
+mod read;
+mod steps;
+mod words;
+mod write;
+
+pub use read::read_cluster;
+pub use steps::{read_plan, write_plan};
+pub use words::Fault;
+pub(crate) use write::number_list;
+pub use write::{constraint_line, write_cluster};
+
+/// What a row or a list counts: nodes or VMs, and how many a cluster may have.
+#[derive(Clone, Copy)]
+pub(crate) struct Things {
+    pub one: &'static str,
+    pub many: &'static str,
+    pub most: usize,
+}
+
+pub(crate) const NODES: Things = Things { one: "node", many: "nodes", most: 64 };
+pub(crate) const VMS: Things = Things { one: "VM", many: "VMs", most: 256 };
+
+impl Things {
+    /// Why a number names nothing in a cluster that has `count` of these.
+    pub fn missing(self, number: u64, count: usize) -> String {
+        let Things { one, many, .. } = self;
+        let there = match count {
+            0 => format!("no {many}"),
+            1 => format!("only {one} 0"),
+            _ => format!("{many} 0 to {}", count - 1),
+        };
+        format!("{one} {number} is not there (this cluster has {there})")
+    }
+}

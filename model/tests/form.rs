@@ -1,0 +1,231 @@
+//! The text forms: every undamaged record has one, both ways give back what went in, and what is
+//! not understood is refused at its line.
+
+use kobdrieft_model::edges::{cluster_a, edges, node, room as made, vm};
+use kobdrieft_model::form::{read_cluster, read_plan, write_cluster, write_plan, Fault};
+use kobdrieft_model::gen::{apart, cases, knot, ring, room, swaps, Rng, Size};
+use kobdrieft_model::puzzles::puzzle;
+use kobdrieft_model::*;
+
+/// Record to text to record, and text to record to text.
+fn there_and_back(record: &[u8]) -> bool {
+    let Ok(room) = parse_cluster(record) else { return false };
+    let text = write_cluster(&room);
+    let again = read_cluster(text.as_bytes()).unwrap_or_else(|f| panic!("{f:?} in\n{text}"));
+    assert_eq!(cluster_bytes(&again), record, "{text}");
+    assert_eq!(write_cluster(&again), text);
+    true
+}
+
+fn plan_there_and_back(record: &[u8]) -> bool {
+    let Ok(steps) = parse_plan(record) else { return false };
+    let text = write_plan(&steps);
+    let again = read_plan(text.as_bytes()).unwrap_or_else(|f| panic!("{f:?} in\n{text}"));
+    assert_eq!(plan_bytes(&again), record, "{text}");
+    assert_eq!(write_plan(&again), text);
+    true
+}
+
+#[test]
+fn generated_clusters() {
+    let mut rng = Rng::new(31);
+    let sizes = [(Size::Tiny, 1_500), (Size::Small, 1_500), (Size::Medium, 400), (Size::Large, 60)];
+    let mut count = 0;
+    for (size, how_many) in sizes {
+        for _ in 0..how_many {
+            for make in [room, knot, apart] {
+                assert!(there_and_back(&cluster_bytes(&make(&mut rng, size))));
+                count += 1;
+            }
+        }
+    }
+    for _ in 0..1_000 {
+        assert!(there_and_back(&cluster_bytes(&puzzle(&mut rng))));
+    }
+    println!("{count} clusters and 1,000 puzzles");
+}
+
+#[test]
+fn generated_and_hand_set_records_with_damage() {
+    let (mut clusters, mut plans) = (0, 0);
+    let random = cases(32, 20_000).map(|case| (case.cluster, case.plan));
+    let set = edges().into_iter().map(|edge| (edge.cluster, edge.plan));
+    for (cluster, plan) in random.chain(set) {
+        clusters += usize::from(there_and_back(&cluster));
+        plans += usize::from(plan_there_and_back(&plan));
+    }
+    println!("{clusters} undamaged clusters, {plans} undamaged plans");
+    assert!(clusters > 10_000 && plans > 10_000);
+}
+
+#[test]
+fn largest_records() {
+    assert!(there_and_back(&cluster_bytes(&swaps(128))));
+    assert!(there_and_back(&cluster_bytes(&ring(&mut Rng::new(1), 64))));
+    let all_vms: Vec<usize> = (0..256).collect();
+    let groups: Vec<Vec<usize>> = (0..64).map(|node| vec![63 - node]).collect();
+    let widest = Constraint::Latency { vms: all_vms, groups };
+    let full = made(&vec![node(0, 0); 64], &vec![vm(1, 0, 63, 0); 256], &vec![widest; 128]);
+    assert!(there_and_back(&cluster_bytes(&full)));
+    let steps = vec![vec![Move { vm: 255, to: 255 }; 2]; 512];
+    assert!(plan_there_and_back(&plan_bytes(&steps)));
+    let steps = vec![vec![Move { vm: 0, to: 63 }; 256]; 4];
+    assert!(plan_there_and_back(&plan_bytes(&steps)));
+}
+
+#[test]
+fn empty_lists() {
+    let text = b"node 0 0\nban vms none nodes none\nfence vms none nodes 0\nspread vms none\n\
+        latency vms none groups none\nlatency vms none groups empty\n\
+        latency vms none groups empty | 0 |empty";
+    let none = Vec::new;
+    let latency = |groups| Constraint::Latency { vms: vec![], groups };
+    let constraints = [
+        Constraint::Ban { vms: none(), nodes: none() },
+        Constraint::Fence { vms: none(), nodes: vec![0] },
+        Constraint::Spread { vms: none() },
+        latency(vec![]),
+        latency(vec![vec![]]),
+        latency(vec![vec![], vec![0], vec![]]),
+    ];
+    assert_eq!(read_cluster(text), Ok(made(&[node(0, 0)], &[], &constraints)));
+}
+
+#[test]
+fn what_people_write() {
+    let a = cluster_a();
+    let plain = b"node 4 100 x3\nvm 3 50 from 0 to 1\nvm 2 50 from 1 to 0";
+    let mixed = "\u{feff}# A\r\nvm 3 50 from 0 to 1# first\r\n\r\n  node 4 100 x2\r\n\
+                 \tvm 02 50 from 1 to 0\r\nnode 4 100 x1\r\n";
+    assert_eq!(read_cluster(plain), Ok(a.clone()));
+    assert_eq!(read_cluster(mixed.as_bytes()), Ok(a));
+    let runs = b"node 1 1 x9\nban vms none nodes 0 2-4 6 8-8";
+    let nodes = vec![0, 2, 3, 4, 6, 8];
+    let ban = Constraint::Ban { vms: vec![], nodes };
+    assert_eq!(read_cluster(runs).unwrap().constraints, [ban]);
+    let both = vec![vec![Move { vm: 0, to: 1 }, Move { vm: 1, to: 0 }]];
+    assert_eq!(read_plan(b"step 0 to 1, 1 to 0 # both"), Ok(both.clone()));
+    assert_eq!(read_plan(b"\nstep 0 to 1,1 to 0\n"), Ok(both));
+    assert_eq!(read_plan(b"# nothing\n"), Ok(vec![]));
+}
+
+#[test]
+fn a_as_text() {
+    let text = write_cluster(&cluster_a());
+    let lines: Vec<&str> = text.lines().map(|l| l.split('#').next().unwrap().trim()).collect();
+    assert_eq!(lines, ["", "node 4 100 x3", "vm 3 50 from 0 to 1", "vm 2 50 from 1 to 0"]);
+    let remarks: Vec<&str> = text.lines().map(|l| l.split('#').nth(1).unwrap().trim()).collect();
+    assert_eq!(remarks[1..], ["nodes 0 to 2", "VM 0", "VM 1"]);
+}
+
+// ---------------------------------------------------------------- refusals
+
+fn refused<T: std::fmt::Debug>(outcome: Result<T, Fault>, line: usize, reason: &str) {
+    assert_eq!(outcome.unwrap_err(), Fault { line, reason: reason.into() });
+}
+
+/// A line in a cluster of three nodes and two VMs, which comes to stand in line 4.
+fn added(line: &str) -> Result<Room, Fault> {
+    let text = format!("node 4 100 x2\nvm 3 50 from 0 to 1\nvm 2 50 from 1 to 0\n{line}\nnode 1 1");
+    read_cluster(text.as_bytes())
+}
+
+#[test]
+fn lines_that_are_refused() {
+    let table = [
+        (
+            "nod 4 100",
+            "no line begins with 'nod', only with node, vm, ban, fence, spread or latency",
+        ),
+        ("step 0 to 1", "'step' belongs in a plan's text; this is read as a cluster"),
+        ("node", "the line ends where the node's memory should stand"),
+        ("node 4", "the line ends where the node's CPU should stand"),
+        ("node four 100", "'four' stands where the node's memory should, a number"),
+        ("node -4 100", "'-4' stands where the node's memory should, a number"),
+        ("node +4 100", "'+4' stands where the node's memory should, a number"),
+        ("node 4 100 3", "'3' stands where the line should end"),
+        ("node 4 100 x", "'x' stands where the line should end"),
+        ("node 4 100 x2 x2", "'x2' stands where the line should end"),
+        ("node 4 100 x0", "x0 is out of range (x1 to x64)"),
+        ("node 4 100 x65", "x65 is out of range (x1 to x64)"),
+        ("node 4 100 x63", "this line makes it 65 nodes; 64 are allowed"),
+        ("node 16777216 1", "the node's memory cannot be 16777216 (it goes from 0 to 16777215)"),
+        ("node 1 65536", "the node's CPU cannot be 65536 (it goes from 0 to 65535)"),
+        ("vm 0 1 from 0 to 1", "the VM's memory cannot be 0 (it goes from 1 to 16777215)"),
+        ("vm 1 70000 from 0 to 1", "the VM's CPU cannot be 70000 (it goes from 0 to 65535)"),
+        ("vm 1 1 to 0 from 1", "'to' stands where 'from' should"),
+        ("vm 1 1 from 0", "the line ends where 'to' should stand"),
+        ("vm 1 1 from 0 to", "the line ends where the target node should stand"),
+        ("vm 1 1 from 3 to 1", "node 3 is not there (this cluster has nodes 0 to 2)"),
+        ("vm 1 1 from 0 to 9", "node 9 is not there (this cluster has nodes 0 to 2)"),
+        ("vm 1 1 from 0 to 1 x255", "this line makes it 257 VMs; 256 are allowed"),
+        ("vm 1 1 from 0 to 1 x257", "x257 is out of range (x1 to x256)"),
+        ("ban 0 nodes 2", "'0' stands where 'vms' should"),
+        ("ban vms 0", "the line ends where 'nodes' should stand"),
+        ("ban vms nodes 2", "'nodes' stands where a list of VMs should ('none' if it has no VMs)"),
+        (
+            "fence vms 0 nodes",
+            "the line ends where a list of nodes should ('none' if it has no nodes)",
+        ),
+        ("fence vms 0 nodes 0 two", "'two' stands where the line should end"),
+        ("spread vms 0 2", "VM 2 is not there (this cluster has VMs 0 to 1)"),
+        ("spread vms 0-2", "VM 2 is not there (this cluster has VMs 0 to 1)"),
+        ("spread vms 1 0", "VM 0 stands behind VM 1; lists rise"),
+        ("spread vms 0 0", "VM 0 stands behind VM 0; lists rise"),
+        ("spread vms 1-0", "1-0 runs backwards; lists rise"),
+        ("spread vms 0 1 nodes 2", "'nodes' stands where the line should end"),
+        ("spread vms none 1", "'1' stands where the line should end"),
+        ("latency vms 0 1", "the line ends where 'groups' should stand"),
+        ("latency vms 0 groups 0 1 | 1", "node 1 stands in two groups"),
+        ("latency vms 0 groups 3", "node 3 is not there (this cluster has nodes 0 to 2)"),
+        (
+            "latency vms 0 groups 0 |",
+            "the line ends where a list of nodes should ('empty' if it has no nodes)",
+        ),
+        (
+            "ban vms 99999999999999999999 nodes 0",
+            "VM 18446744073709551615 is not there (this cluster has VMs 0 to 1)",
+        ),
+    ];
+    for (line, reason) in table {
+        refused(added(line), 4, reason);
+    }
+    let groups = format!("latency vms 0 groups empty{}", " | empty".repeat(64));
+    refused(added(&groups), 4, "a latency has at most 64 groups");
+    let spreads = "spread vms 0 1\n".repeat(129);
+    refused(added(&spreads), 4 + 128, "this line is one too many; 128 are allowed");
+}
+
+#[test]
+fn texts_that_are_refused() {
+    let no_nodes = "the text ends without a node line; a cluster has 1 to 64 nodes";
+    refused(read_cluster(b""), 1, no_nodes);
+    refused(read_cluster(b"# empty\n\n# still\n"), 3, no_nodes);
+    refused(read_cluster(b"node 1 1\n\xff"), 2, "this line is not plain text (UTF-8)");
+    let alone = b"node 1 1\nspread vms 0";
+    refused(read_cluster(alone), 2, "VM 0 is not there (this cluster has no VMs)");
+    let alone = b"node 1 1\nvm 1 1 from 0 to 1";
+    refused(read_cluster(alone), 2, "node 1 is not there (this cluster has only node 0)");
+}
+
+#[test]
+fn plans_that_are_refused() {
+    let table = [
+        ("node 4 100", "'node' stands where 'step' should"),
+        ("step", "the line ends where a VM should stand"),
+        ("step 0", "the line ends where 'to' should stand"),
+        ("step 0 to", "the line ends where a destination should stand"),
+        ("step 256 to 0", "a VM cannot be 256 (it goes from 0 to 255)"),
+        ("step 0 to 256", "a destination cannot be 256 (it goes from 0 to 255)"),
+        ("step 0 to 1 1 to 0", "'1' stands where ',' should"),
+        ("step 0 to 1,", "the line ends where a VM should stand"),
+    ];
+    for (line, reason) in table {
+        refused(read_plan(format!("step 0 to 1\n\n{line}\n").as_bytes()), 3, reason);
+    }
+    let wide = |moves: usize| format!("step {}\n", vec!["0 to 1"; moves].join(", "));
+    let long = "step 0 to 1\n".repeat(513);
+    refused(read_plan(long.as_bytes()), 513, "a plan has at most 512 steps");
+    refused(read_plan(wide(257).as_bytes()), 1, "a step has at most 256 moves");
+    refused(read_plan(wide(205).repeat(5).as_bytes()), 5, "a plan has at most 1024 moves");
+}
