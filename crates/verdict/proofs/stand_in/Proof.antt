@@ -1,0 +1,27 @@
+use Rattle.verdict.proofs.Laws.{alike-told, alike-untold}
+use borrow.Author.Needs.{needs}
+use Rattle.verdict.proofs.stand_in.Statement.{statement}
+use Rattle.verdict.proofs.stand_in.Tie as tie
+use Rattle.verdict.proofs.stand_in.Reads as reads
+use Rattle.verdict.proofs.stand_in.Lts as lts
+use Rattle.records.proofs.stated_length.Reads as stated-length-reads
+
+-- src/main.rt:39:19
+element-copy-out-version : tie.Need-element-copy-out-version
+element-copy-out-version c = search needs
+
+-- src/main.rt:40:9
+stated-length-requires : tie.Need-stated-length-requires
+stated-length-requires c κs = search needs
+
+-- src/main.rt:35:1
+returns : tie.Need-returns
+returns c = search (needs, alike-told)
+
+-- src/main.rt:35:1
+returns-2 : tie.Need-returns-2
+returns-2 c = search (needs, alike-untold)
+
+pub stand-in-spec : {M : Type 1} → statement M
+stand-in-spec =
+    tie.close (tie.spec element-copy-out-version stated-length-requires returns returns-2)

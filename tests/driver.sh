@@ -1,0 +1,193 @@
+#!/usr/bin/env bash
+# What ./kobdrieft prints and how it ends: on the built programs, and in a small repository whose 'rt' and 'cargo' are stand-ins.
+# The last line is 'driver: N passed, M failed'.
+set -u
+root=$(cd "$(dirname "$0")/.." && pwd -P)
+driver=$root/kobdrieft
+data=$root/crates/verdict/data
+passed=0 failed=0
+
+room=$(mktemp -d)
+trap 'rm -rf "$room"' EXIT
+mkdir "$room/a place" "$room/a place/folder"
+cd "$room/a place" || exit 1
+
+# Runs a command and compares its status and standard output, and a pattern that its standard error has; '' is no line at all.
+expect() { # NAME STATUS OUTPUT PATTERN COMMAND..
+  local name=$1 status=$2 output=$3 pattern=$4 said ended errors
+  shift 4
+  said=$("$@" 2>"$room/errors")
+  ended=$?
+  errors=$(cat "$room/errors")
+  # shellcheck disable=SC2053
+  if [ "$ended" = "$status" ] && [ "$said" = "$output" ] && [[ $errors == $pattern ]]; then
+    passed=$((passed + 1))
+  else
+    failed=$((failed + 1))
+    printf 'FAILED %s\n status %s\n output %s\n errors %s\n' "$name" "$ended" "$said" "$errors"
+  fi
+}
+
+bytes() { # HEX..
+  local pair
+  for pair in $(fold -w 2 <<<"$(printf %s "$@")"); do
+    # shellcheck disable=SC2059
+    printf "\\x$pair"
+  done
+}
+
+long_plan() { # VERSION STATED SIZE
+  bytes "$1" "$(printf %08x "$2")"
+  head -c "$(($3 - 5))" /dev/zero
+}
+
+cp "$data/a.cluster" 'cluster A'
+cp "$data/a.plan" 'plan A'
+cp "$data/a.plan" ./-plan
+bytes 01 00000028 0003 0002 0000 0000040064 0000040064 0000010064 0000030032 00 01 0000020032 01 00 >blocked
+bytes 01 00000007 0000 >none
+bytes 01 0000000d 0001 0002 00 01 01 00 >both
+: >empty
+long_plan 01 65536 65536 >long
+long_plan 01 65536 65537 >longer
+long_plan 01 65537 65537 >honest
+long_plan 02 65537 65537 >versioned
+a_plan=$(cat "$root/crates/plan/stdout")
+
+"$driver" plan 'cluster A' >/dev/null # builds what is missing, and says so
+files() { find "$1" -path "$1/target" -prune -o -type f -print | sort; }
+before=$(files .)
+
+# what the programs print
+expect 'a plan' 0 "$a_plan" '' "$driver" plan 'cluster A'
+expect 'blocked' 1 'blocked steps 0 moves 0 cost 0' '' "$driver" plan blocked
+expect 'no record to plan' 1 'refused 1 step 0' '' "$driver" plan empty
+expect 'accepted' 0 'accepted cost 16' '' "$driver" check 'cluster A' 'plan A'
+expect 'off target' 1 'refused 19 step 0' '' "$driver" check 'cluster A' none
+expect 'does not fit' 1 'refused 17 step 1' '' "$driver" check 'cluster A' both
+expect 'no record to check' 1 'refused 1 step 0' '' "$driver" check empty 'plan A'
+expect 'no plan to check' 1 'refused 11 step 0' '' "$driver" check 'cluster A' empty
+expect 'a long cluster' 1 'refused 3 step 0' '' "$driver" check longer 'plan A'
+expect 'a full buffer of plan' 1 'refused 14 step 0' '' "$driver" check 'cluster A' long
+expect 'a long plan, another length stated' 1 'refused 13 step 0' '' "$driver" check 'cluster A' longer
+expect 'a long plan, its length stated' 1 'refused 14 step 0' '' "$driver" check 'cluster A' honest
+expect 'a long plan, another version' 1 'refused 12 step 0' '' "$driver" check 'cluster A' versioned
+
+# where the files are
+expect 'a name like an option' 0 'accepted cost 16' '' "$driver" check 'cluster A' -plan
+expect 'full paths' 0 'accepted cost 16' '' "$driver" check "$PWD/cluster A" "$PWD/plan A"
+expect 'pipes' 0 'accepted cost 16' '' "$driver" check <(cat 'cluster A') <(cat 'plan A')
+expect 'standard input' 0 "$a_plan" '' "$driver" plan /dev/stdin <'cluster A'
+mkdir "$room/links"
+ln -s "$driver" "$room/links/absolute"
+ln -s absolute "$room/links/of a link"
+expect 'through a link' 0 'accepted cost 16' '' "$room/links/absolute" check 'cluster A' 'plan A'
+expect 'through a link of a link' 0 'accepted cost 16' '' ../links/'of a link' check 'cluster A' 'plan A'
+
+# wrong use
+expect 'help' 0 "$("$driver" --help)" '' "$driver" help
+expect 'no command' 2 '' 'usage: kobdrieft plan CLUSTER*' "$driver"
+expect 'another command' 2 '' 'kobdrieft: no such command: plans*usage:*' "$driver" plans
+expect 'plan of nothing' 2 '' 'kobdrieft: plan takes one file*usage:*' "$driver" plan
+expect 'plan of two' 2 '' 'kobdrieft: plan takes one file*' "$driver" plan 'cluster A' 'plan A'
+expect 'check of one' 2 '' 'kobdrieft: check takes two files*' "$driver" check 'cluster A'
+expect 'test of a file' 2 '' 'kobdrieft: test takes no argument*' "$driver" test 'cluster A'
+expect 'bench of a file' 2 '' 'kobdrieft: bench takes no argument*' "$driver" bench 'cluster A'
+expect 'plan: no such file' 2 '' 'kobdrieft: no such file: plant.cluster' "$driver" plan plant.cluster
+expect 'check: no such file' 2 '' 'kobdrieft: no such file: plant.plan' "$driver" check 'cluster A' plant.plan
+expect 'plan: a folder' 2 '' 'kobdrieft: a directory, not a file: folder' "$driver" plan folder
+expect 'check: a folder' 2 '' 'kobdrieft: a directory, not a file: folder' "$driver" check folder 'plan A'
+# shellcheck disable=SC2016
+expect 'nowhere to print' 3 '' '*kobdrieft: cannot write to standard output' bash -c '"$0" plan "cluster A" >/dev/full' "$driver"
+expect 'the program: no arguments' 0 '' 'verdict: it takes a cluster file and a plan file' "$root/target/bin/verdict"
+expect 'the program: no such file' 0 '' 'verdict: cannot read plant: No such file or directory' "$root/target/bin/verdict" 'cluster A' plant
+expect 'the program: a folder' 0 '' 'verdict: cannot read folder: Is a directory' "$root/target/bin/verdict" folder 'plan A'
+
+expect 'nothing written' 0 "$before" '' files .
+
+# ---- a small repository, with a kit that is a script
+small=$room/'small one'
+mkdir -p "$small/crates/plan" "$small/model/harness" "$room/tools" "$room/kit"
+cp "$driver" "$small/kobdrieft"
+: >"$small/crates.txt"
+: >"$small/crates/plan/source"
+for tool in bash cat chmod date dirname env find flock head mkdir readlink rm tail touch; do
+  ln -s "$(command -v "$tool")" "$room/tools/$tool"
+done
+cat >"$room/kit/rt" <<'EOF'
+#!/usr/bin/env bash
+echo "rt $*"
+echo "rt $*" >>"$CALLS"
+[ ! -e "$CALLS.break" ] || { echo 'rules NOT PROVED'; exit 1; }
+mkdir -p target/bin target/stamp target/staticlib
+if [ "$1" = check ]; then
+  printf '#!/usr/bin/env bash\ncat\n' >target/bin/plan
+  printf '#!/usr/bin/env bash\ncat "$1"; exit "${ENDS:-0}"\n' >target/bin/verdict
+  chmod +x target/bin/plan target/bin/verdict
+  : >target/stamp/plan
+  : >target/stamp/verdict
+else
+  : >"target/staticlib/lib$2.a"
+fi
+EOF
+cat >"$room/kit/cargo" <<'EOF'
+#!/usr/bin/env bash
+echo "cargo $1 in ${PWD##*/}"
+EOF
+cp "$room/kit/cargo" "$room/kit/cc"
+chmod +x "$room"/kit/*
+before=$(files "$small")
+echo 'plan steps 0' >said
+export CALLS=$room/calls
+bare() { PATH=$room/tools "$small/kobdrieft" "$@"; }
+kit() { PATH=$room/kit:$room/tools "$small/kobdrieft" "$@"; }
+both_at_once() { kit plan said & kit plan said; wait; }
+calls() { cat "$CALLS" 2>/dev/null; rm -f "$CALLS"; }
+
+expect 'no kit' 3 '' "kobdrieft: 'rt' is not on the PATH: the Rattle kit is needed to build the planner and the checker" bare plan said
+expect 'no kit to test' 3 '' "kobdrieft: 'rt' is not on the PATH: *" bare test
+expect 'no cargo' 3 '' "kobdrieft: 'cargo' is not on the PATH: *" bare bench
+expect 'a file is looked at before a build' 2 '' 'kobdrieft: no such file: nothing' kit plan nothing
+expect 'nothing was built' 0 '' '' calls
+: >"$CALLS.break"
+expect 'a failed build' 3 '' '*about 3 minutes, once*rules NOT PROVED*kobdrieft: failed: rt check plan verdict; the whole log is *' kit plan said
+rm -f "$CALLS.break" "$CALLS"
+expect 'first use' 0 'plan steps 0' "kobdrieft: proving and building the planner and the checker, about 3 minutes, once (log: $small/target/kobdrieft.log)" kit plan said
+expect 'one build' 0 'rt check plan verdict' '' calls
+expect 'the log has it' 0 'rt check plan verdict' '' cat "$small/target/kobdrieft.log"
+expect 'second use' 0 'plan steps 0' '' kit plan said
+expect 'without the kit once built' 0 'plan steps 0' '' bare plan said
+expect 'no second build' 0 '' '' calls
+touch "$small/crates/plan/source"
+expect 'a source changed' 0 'plan steps 0' '*the checker anew, up to 3 minutes*' kit plan said
+rm "$small/target/stamp/plan"
+expect 'a program not seen to run' 0 'plan steps 0' '*proving and building*' kit plan said
+rm "$small/target/bin/verdict"
+expect 'a program missing' 0 'plan steps 0' '*proving and building*' kit check said said
+expect 'three builds' 0 "$(printf 'rt check plan verdict\n%.0s' 1 2 3)" '' calls
+rm -r "$small/target"
+expect 'two first uses at once' 0 $'plan steps 0\nplan steps 0' '*' both_at_once
+expect 'one of them builds' 0 'rt check plan verdict' '' calls
+expect 'a program that breaks off' 3 '' 'kobdrieft: * ended with status 4' env ENDS=4 PATH="$room/tools" "$small/kobdrieft" check said said
+expect 'a program with no answer' 2 '' '' bare check empty said
+expect 'bench' 0 'cargo run in harness' '*proving and building the static libraries*kobdrieft: building the benchmark*' kit bench
+expect 'bench again' 0 'cargo run in harness' 'kobdrieft: building the benchmark*' kit bench
+expect 'two libraries' 0 $'rt staticlib rules\nrt staticlib planner' '' calls
+expect 'only target/ written' 0 "$before" '' files "$small"
+
+# root reads every file, so as nobody
+unreadable() {
+  if [ "$(id -u)" = 0 ]; then
+    setpriv --reuid=65534 --regid=65534 --clear-groups "$small/kobdrieft" plan said
+  else
+    "$small/kobdrieft" plan said
+  fi
+}
+chmod 711 "$room"
+chmod -R go+rX "$small" "$room/a place"
+chmod 600 said
+[ "$(id -u)" = 0 ] || chmod 000 said
+expect 'a file that may not be read' 2 '' 'kobdrieft: cannot read said: permission denied' unreadable
+
+echo "driver: $passed passed, $failed failed"
+[ "$failed" -eq 0 ]

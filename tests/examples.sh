@@ -1,0 +1,29 @@
+#!/usr/bin/env bash
+# Every example through the proved programs: what they print is what examples/ has. The last line is 'examples: N passed, M failed'.
+set -u
+cd "$(dirname "$0")/.."
+passed=0
+failed=0
+
+# NAME EXPECTED COMMAND..
+compare() {
+  local name=$1 expected=$2
+  shift 2
+  if "$@" 2>/dev/null | cmp -s - "$expected"; then
+    passed=$((passed + 1))
+  else
+    failed=$((failed + 1))
+    echo "examples: $name comes out otherwise than $expected says"
+  fi
+}
+
+for expected in examples/*.expected; do
+  name=$(basename "$expected" .expected)
+  compare "$name" "$expected" ./kobdrieft plan "examples/$name.cluster"
+done
+for expected in examples/*.verdict; do
+  name=$(basename "$expected" .verdict)
+  compare "$name" "$expected" ./kobdrieft check "examples/$name.cluster" "examples/$name.plan"
+done
+echo "examples: $passed passed, $failed failed"
+[ "$failed" -eq 0 ] && [ "$passed" -gt 0 ]
