@@ -10,9 +10,9 @@
  *
  * Threads. There is no state: any number of threads may call at once, each with an `out` of its own.
  *
- * Stack. Measured on full rooms, x86-64: `check` takes 91,392 bytes (512 steps), `build` 175,184 (500
- * steps). A step takes 112 bytes and a built plan has at most 511, so `build` takes at most 176,416. Give a
- * thread KOB_CHECK_STACK or KOB_BUILD_STACK, and what it needs itself.
+ * Stack. Measured on full rooms, x86-64: `check` takes 91,391 bytes (512 steps), `build` 175,183 (500
+ * steps). A step takes 112 bytes and a built plan has at most 511, so `build` should take 176,415 at most.
+ * Give a thread KOB_CHECK_STACK or KOB_BUILD_STACK, and what it needs itself.
  *
  * No call allocates, does I/O, or calls anything but memcpy, memmove, memset and memcmp.
  */

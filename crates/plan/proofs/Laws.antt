@@ -23,9 +23,6 @@ module _ (s : List ℕ) (at i n : ℕ) (w : Steps s at (n - i)) (z : i < n) wher
   pub walk-next : (end : ℕ) → end ≡ stepEnd s at → Steps s end (n - (i + 1))
   walk-next end q = let e : n - (i + 1) ≡ (n - i) - 1 = omega arith in rw (q, e) (steps-next s at (n - i) w (omega arith))
 
--- what a look at a record found, once it is matched
+-- what a look at a cluster record found, once it is matched
 pub room-is-whole : (s : List ℕ) (found : ClusterCheck) → found ≡ clusterCheck s → found ≡ ClusterCheck.Whole → clusterCheck s ≡ ClusterCheck.Whole
 room-is-whole s found e q = sym e ∙ q
-
-pub plan-is-whole : (s : List ℕ) (found : PlanCheck) → found ≡ planCheck s → found ≡ PlanCheck.Whole → planCheck s ≡ PlanCheck.Whole
-plan-is-whole s found e q = sym e ∙ q

@@ -1,13 +1,13 @@
 -- What inner functions answer, on the way to the definitions before. Nothing here has to be believed.
-use Prim.Native.Nat.{ℕ, zero, suc, _+_, _-_, _*_, _<_, _≤_, _^_}
-use mathlib.Core.Bool.{Bool, true, false, not, _&&_}
+use Prim.Native.Nat.{ℕ, zero, suc, _+_, _*_, _<_, _≤_, _^_}
+use mathlib.Core.Bool.{Bool, true, not, _&&_}
 use mathlib.Core.List.{List, [], _∷_, _++_}
 use mathlib.Core.Path.{_≡_}
 use lib.ListN.{length, getD, set}
 use lib.Dec.{eqb}
 use Rattle.records.specs.Base.{pick, all}
 use Rattle.records.specs.Room.{Constraint, ban, fence, spread, latency, Room, roomOf, nodeOf, vmOf, vmCount, constraintOf}
-use Rattle.records.specs.Plan.{Move, Step, moveTotal, stepsBytes, written, shaped}
+use Rattle.records.specs.Plan.{Step, moveTotal, stepsBytes, written, shaped}
 use Rattle.rules.specs.Moments.{Placement, placeOf, currentOf, targetOf, within, withVm, tallyAt, firstMoment, allRunning}
 use Rattle.rules.specs.Orders.{spreads, some, meetsMate}
 use Rattle.rules.specs.Rules.{allowed, soundStep}

@@ -13,7 +13,7 @@ use Rattle.rules.specs.Moments.{Placement, currentOf}
 use Rattle.rules.specs.Orders.{Run, EachBeginOfRun}
 use Rattle.rules.specs.Rules.{targetCheck, soundStep}
 use Rattle.rules.specs.Cost.{costOf}
-use Rattle.rules.specs.Verdict.{home, verdictOf}
+use Rattle.rules.specs.Verdict.{verdictOf}
 use Rattle.rules.specs.Promises.{afterAll, namedAll, Obeys, EveryRun, SoundInOrders, StaysWithin}
 use Rattle.rules.specs.declared.faults.TargetCheck.{TargetCheck}
 use Rattle.rules.specs.declared.faults.Fault.{Fault}

@@ -3,13 +3,11 @@ use crate::join::may_join;
 use rules::Tally;
 ghost use mathlib.Core.Path.{_≡_};
 ghost use Prim.Native.Nat.{_<_};
-ghost use Rattle.records.specs.Base.{pick};
 ghost use Rattle.records.specs.Room.{roomOf, vmCount, clusterCheck};
 ghost use Rattle.records.specs.declared.faults.ClusterCheck.{ClusterCheck};
-ghost use Rattle.rules.specs.Moments.{placeOf, targetOf};
 ghost use Rattle.rules.specs.Inner.{held, Allows, Placed, destsFrom};
 ghost use Rattle.planner.specs.Picks.{directStep};
-ghost use Rattle.planner.specs.Inner.{Pairs, Light, joinsIn, goalOf};
+ghost use Rattle.planner.specs.Inner.{Pairs, Light, goalOf};
 
 // Where VM v goes in the step: to its target if it may join the moves before it, `here` being the target's tally with those running.
 fn goal(

@@ -1,21 +1,21 @@
 -- Laws on the answer: the record that is written, the refusals in their turn.
-use Prim.Native.Nat.{ℕ, zero, suc, _+_, _-_, _*_, _≤_, _<_, _^_}
-use mathlib.Core.Bool.{Bool, true, false}
-use mathlib.Core.List.{List, [], _∷_, _++_}
-use mathlib.Core.Path.{_≡_, refl, sym, ap, ap₂, _∙_}
+use Prim.Native.Nat.{ℕ, _+_, _≤_, _<_, _^_}
+use mathlib.Core.Bool.{true, false}
+use mathlib.Core.List.{List, _++_}
+use mathlib.Core.Path.{_≡_, refl, sym, ap, _∙_}
 use native.Mathlib.Omega.{arith}
 use lib.ListN.{length, take, drop, length-append, length-drop}
 use lib.Seq.{take-at, length-take-le}
 use lib.Dec.{ltb}
 use borrow.Author.Tests.{lt-ltb, le-ltb}
 use Rattle.records.specs.Base.{pick}
-use Rattle.records.specs.Bytes.{be32, bytes16, bytes32}
-use Rattle.records.specs.Room.{Room, roomOf, clusterCheck}
-use Rattle.records.specs.Plan.{Step, moveTotal, stepsOf, shaped, stepsBytes, headerBytes, planBytes, written, planCheck}
+use Rattle.records.specs.Bytes.{bytes16, bytes32}
+use Rattle.records.specs.Room.{roomOf, clusterCheck}
+use Rattle.records.specs.Plan.{stepsOf, shaped, stepsBytes, headerBytes, planBytes, written, planCheck}
 use Rattle.records.specs.declared.faults.ClusterFault.{ClusterFault}
 use Rattle.records.specs.declared.faults.ClusterCheck.{ClusterCheck}
 use Rattle.records.specs.declared.faults.PlanCheck.{PlanCheck}
-use Rattle.records.proofs.Laws.RoundTrip.{plan-length, plan-whole, steps-of-plan, stated-is}
+use Rattle.records.proofs.Laws.RoundTrip.{plan-length, plan-whole, steps-of-plan}
 use Rattle.records.proofs.Laws.Written.{written-earlier, written-zero}
 use Rattle.rules.specs.Moments.{currentOf}
 use Rattle.rules.specs.Rules.{targetCheck}

@@ -1,35 +1,32 @@
 -- Laws on a move that is added to a step held as an array of destinations: the test at its destination is the test of the whole step.
-use Prim.Native.Nat.{ℕ, zero, suc, _+_, _-_, _*_, _≤_, _<_, _^_}
-use mathlib.Core.Bool.{Bool, true, false, not, _&&_, false≢true}
+use Prim.Native.Nat.{ℕ, _+_, _*_, _<_}
+use mathlib.Core.Bool.{Bool, true, false, not}
 use mathlib.Core.List.{List, [], _∷_, _++_}
-use mathlib.Core.Logic.{by-cases}
-use mathlib.Core.Path.{_≡_, refl, sym, ap, ap₂, _∙_}
-use native.Mathlib.Decide.{ℕ-discrete}
+use mathlib.Core.Path.{_≡_, refl, sym, ap, _∙_}
 use native.Mathlib.Omega.{arith}
-use lib.ListN.{length, getD, set, replicate, length-set, getD-replicate}
-use lib.Seq.{set-getD, set-comm, getD-set-same, getD-set-other}
+use lib.ListN.{length, getD, set, getD-replicate}
+use lib.Seq.{set-comm, getD-set-other}
 use lib.Dec.{ltb, eqb}
-use borrow.Author.Tests.{ltb-true, lt-ltb, eq-eqb, ne-eqb, eqb-true, eqb-false, not-true}
+use borrow.Author.Tests.{ltb-true, lt-ltb, eq-eqb, ne-eqb}
 use mir.Syntax.{w64}
 use mir.Val.{Fits}
 use Rattle.records.specs.Base.{pick, all}
 use Rattle.records.specs.Room.{Room, roomOf, vmOf, nodeOf, nodeCount, vmCount, clusterCheck}
-use Rattle.records.specs.Plan.{Move, Step}
+use Rattle.records.specs.Plan.{Step}
 use Rattle.records.specs.declared.faults.ClusterCheck.the-variants.{Whole}
-use Rattle.records.proofs.Laws.Bools.{and-left, and-right, and-both, bool-iff, all-head, all-tail}
+use Rattle.records.proofs.Laws.Bools.{all-head, all-tail}
 use Rattle.records.proofs.Laws.Cluster.{nodes-most, vms-most, vms-count, nodes-count}
-use Rattle.rules.specs.Moments.{Placement, placeOf, targetOf, Moment, emptyTally, within, withVm, tallyAt, firstMoment, allRunning}
+use Rattle.rules.specs.Moments.{within, withVm, tallyAt, firstMoment, allRunning}
 use Rattle.rules.specs.Orders.{meetsMate}
-use Rattle.rules.specs.Rules.{allowed, named, soundStep}
-use Rattle.rules.specs.Inner.{NeedOf, held, Placed, destsFrom, busyFrom, Loads, Allows}
+use Rattle.rules.specs.Rules.{allowed, soundStep}
+use Rattle.rules.specs.Inner.{NeedOf, held, destsFrom, busyFrom, Allows}
 use Rattle.rules.specs.declared.tally.Need.{Need}
 use Rattle.rules.specs.declared.tally.Tally.{Tally}
 use Rattle.rules.proofs.Laws.Adding.{eqb-sym, joins, adding}
 use Rattle.rules.proofs.Laws.Fit.{held-at, running-is}
-use Rattle.rules.proofs.Laws.Places.{target-at}
 use Rattle.rules.proofs.Laws.Sound.{sound-named}
-use Rattle.planner.specs.Picks.{moving, direct, away, canGo, joined}
-use Rattle.planner.specs.Inner.{Light, joinsIn, goalOf}
+use Rattle.planner.specs.Picks.{moving}
+use Rattle.planner.specs.Inner.{joinsIn, goalOf}
 
 -- ---- indices
 

@@ -1,34 +1,30 @@
 -- Laws on the search for a pivot: moves of one VM alone, the first node and the first VM that will do.
-use Prim.Native.Nat.{ℕ, zero, suc, _+_, _-_, _*_, _≤_, _<_, _^_}
+use Prim.Native.Nat.{ℕ, _+_, _-_, _≤_, _<_}
 use mathlib.Core.Bool.{Bool, true, false, not, _&&_, _||_, false≢true}
-use mathlib.Core.List.{List, [], _∷_, _++_}
-use mathlib.Core.Logic.{by-cases}
+use mathlib.Core.List.{List, [], _∷_}
 use mathlib.Core.Path.{_≡_, refl, sym, ap, ap₂, _∙_}
-use native.Mathlib.Decide.{ℕ-discrete}
 use native.Mathlib.Nat.{sub-zero}
-use native.Mathlib.Numerals.{add-one}
 use native.Mathlib.Omega.{arith}
-use lib.ListN.{length, getD, set, take, replicate}
+use lib.ListN.{length, getD, set, replicate}
 use lib.Seq.{length-take-le, take-set-lt}
 use lib.Dec.{ltb, eqb}
-use borrow.Author.Tests.{lt-ltb, le-ltb, eq-eqb, ne-eqb, eqb-true, eqb-false, not-true, ltb-true}
+use borrow.Author.Tests.{lt-ltb, le-ltb, eq-eqb, ne-eqb, eqb-false, not-true}
 use Rattle.records.specs.Base.{pick, all}
 use Rattle.records.specs.Room.{Room, roomOf, vmOf, nodeCount, vmCount, clusterCheck}
-use Rattle.records.specs.Plan.{Move, Step}
+use Rattle.records.specs.Plan.{Step}
 use Rattle.records.specs.declared.faults.ClusterCheck.the-variants.{Whole}
-use Rattle.records.proofs.Laws.Bools.{and-left, and-right, and-both, bool-iff}
 use Rattle.records.proofs.Laws.Cluster.{nodes-most, vms-most, vms-count, nodes-count}
-use Rattle.rules.specs.Moments.{Placement, placeOf, targetOf, emptyTally, tallyAt, firstMoment, allRunning}
+use Rattle.rules.specs.Moments.{Placement, placeOf, targetOf, emptyTally}
 use Rattle.rules.specs.Orders.{some}
-use Rattle.rules.specs.Rules.{from, named, soundStep}
+use Rattle.rules.specs.Rules.{from, soundStep}
 use Rattle.rules.specs.Inner.{held, Placed, destsFrom, Loads}
 use Rattle.rules.specs.declared.tally.Tally.{Tally}
-use Rattle.rules.proofs.Laws.Adding.{Joins, joins-tests, alone, empty-sound}
+use Rattle.rules.proofs.Laws.Adding.{joins-tests, alone, empty-sound}
 use Rattle.rules.proofs.Laws.Fit.{held-at}
 use Rattle.rules.proofs.Laws.Places.{target-at}
 use Rattle.rules.proofs.Laws.Targets.{dests-none}
 use Rattle.planner.specs.Picks.{moving, away, canGo, directStep, pivotFirst, pivotStep, pivotAmong, orElse, vmsIn, nodesIn}
-use Rattle.planner.specs.Inner.{Light, Rested, joinsIn, aside, pivotNode, comer, comesTo, usefulNode}
+use Rattle.planner.specs.Inner.{Rested, joinsIn, aside, pivotNode, comer, comesTo, usefulNode}
 use Rattle.planner.proofs.Laws.Direct.{direct-none}
 use Rattle.planner.proofs.Laws.Joining.{longer-sound}
 use Rattle.planner.proofs.Laws.Pivots.{pivot-among, useful-home, useful-nowhere, useful-found, useful-not}

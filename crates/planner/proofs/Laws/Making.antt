@@ -1,27 +1,26 @@
 -- Laws on the steps as they are made and written: the next step, and one turn after the other.
-use Prim.Native.Nat.{ℕ, zero, suc, _+_, _-_, _*_, _≤_, _<_}
-use mathlib.Core.Bool.{Bool, true, false, not, _&&_, false≢true}
+use Prim.Native.Nat.{ℕ, zero, suc, _+_, _*_, _≤_, _<_}
+use mathlib.Core.Bool.{Bool, true, false, false≢true}
 use mathlib.Core.List.{List, [], _∷_, _++_, append-assoc, append-nil}
 use mathlib.Core.Logic.{by-cases}
 use mathlib.Core.Path.{_≡_, refl, sym, ap, ap₂, _∙_}
 use native.Mathlib.Decide.{ℕ-discrete}
-use native.Mathlib.Numerals.{add-one}
 use native.Mathlib.Omega.{arith}
-use lib.ListN.{length, getD, set, replicate, length-set, length-append, getD-replicate}
+use lib.ListN.{length, getD, set, length-append, getD-replicate}
 use lib.Seq.{getD-set-same, getD-set-other}
-use lib.Dec.{ltb, eqb}
-use borrow.Author.Tests.{ltb-true, lt-ltb, le-ltb}
+use lib.Dec.{ltb}
+use borrow.Author.Tests.{ltb-true, lt-ltb}
 use mir.Syntax.{w64}
 use mir.Val.{Fits}
-use Rattle.records.specs.Base.{pick, all, sumOf}
+use Rattle.records.specs.Base.{sumOf}
 use Rattle.records.specs.Bytes.{bytes16}
-use Rattle.records.specs.Room.{Room, roomOf, nodeCount, vmCount, clusterCheck}
-use Rattle.records.specs.Plan.{Move, Step, moveTotal, shaped, movesBytes, stepBytes, stepsBytes, written}
+use Rattle.records.specs.Room.{Room, roomOf, vmCount, clusterCheck}
+use Rattle.records.specs.Plan.{Step, moveTotal, shaped, movesBytes, stepBytes, stepsBytes, written}
 use Rattle.records.specs.declared.faults.ClusterCheck.the-variants.{Whole}
 use Rattle.records.proofs.Laws.Cluster.{nodes-most, vms-most, vms-count, nodes-count}
 use Rattle.records.proofs.Laws.RoundTrip.{moves-length, steps-bytes-length}
 use Rattle.records.proofs.Laws.Written.{written-next, written-earlier, written-length}
-use Rattle.rules.specs.Moments.{Placement, placeOf, currentOf, after}
+use Rattle.rules.specs.Moments.{Placement, currentOf, after}
 use Rattle.rules.specs.Rules.{named, soundStep}
 use Rattle.rules.specs.Verdict.{home}
 use Rattle.rules.specs.Promises.{afterAll}
@@ -35,11 +34,10 @@ use Rattle.rules.proofs.Laws.Verdicts.{current-length}
 use Rattle.planner.specs.Picks.{moving, directStep, pivotStep, orElse, nextStep, Picks, picked}
 use Rattle.planner.specs.Answer.{stepsFor}
 use Rattle.planner.specs.Inner.{moveIn, movesIn, Trailed}
-use Rattle.planner.specs.declared.steps.Trail.{Trail}
-use Rattle.planner.proofs.Laws.Budget.{next-sound, budget, budget-511, turn-budget, picks-unique, picks-steps, picks-moves, picks-shaped, Leads, leads-start, leads-turn, leads-end}
+use Rattle.planner.proofs.Laws.Budget.{next-sound, budget, budget-511, turn-budget, picks-unique, picks-steps, picks-shaped, Leads, leads-start, leads-turn, leads-end}
 use Rattle.planner.proofs.Laws.Direct.{direct-sound}
 use Rattle.planner.proofs.Laws.Lone.{held-length}
-use Rattle.planner.proofs.Laws.Moves.{move-none, move-one, bytes-append, written-none}
+use Rattle.planner.proofs.Laws.Moves.{move-none, move-one, written-none}
 
 -- ---- the array of destinations gives the step back
 

@@ -11,7 +11,7 @@ use lib.Seq.{set-getD}
 use lib.Dec.{ltb, eqb}
 use borrow.Author.Tests.{lt-ltb, eq-eqb, ne-eqb}
 use Rattle.records.specs.Base.{pick}
-use Rattle.records.specs.Plan.{Move, Step, moveBytes, movesBytes, written}
+use Rattle.records.specs.Plan.{Step, moveBytes, movesBytes, written}
 use Rattle.records.proofs.Laws.RoundTrip.{moves-length}
 use Rattle.records.proofs.Laws.Written.{written-next, written-length}
 use Rattle.rules.specs.Moments.{after}

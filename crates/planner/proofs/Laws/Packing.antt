@@ -1,6 +1,6 @@
 -- Laws on an answer as one number.
-use Prim.Native.Nat.{ℕ, _+_, _*_, _<_, _^_}
-use mathlib.Core.Path.{_≡_, refl, sym, ap, _∙_}
+use Prim.Native.Nat.{ℕ, _+_, _*_, _^_}
+use mathlib.Core.Path.{_≡_}
 use Rattle.planner.specs.Answer.{buildNumber, packedMade, packedAnswer}
 use Rattle.planner.specs.Promises.{Packs}
 use Rattle.planner.specs.declared.answer.Made.{Made}

@@ -7,7 +7,7 @@ use mathlib.Core.Path.{_≡_, refl, sym, ap, _∙_}
 use native.Mathlib.Decide.{ℕ-discrete}
 use native.Mathlib.Numerals.{add-one}
 use native.Mathlib.Omega.{arith}
-use lib.ListN.{length, getD, set, drop, replicate, length-set, length-replicate, getD-replicate, drop-of-length-le}
+use lib.ListN.{length, getD, set, drop, replicate, length-set, length-replicate, drop-of-length-le}
 use lib.Seq.{drop-cons, getD-set-same, getD-set-other}
 use lib.Dec.{ltb, eqb}
 use borrow.Author.Tests.{lt-ltb, eq-eqb, ne-eqb, ltb-true}
@@ -21,9 +21,8 @@ use Rattle.records.proofs.Laws.Bools.{and-left, and-right, all-head, all-tail}
 use Rattle.records.proofs.Laws.Cluster.{vms-most}
 use Rattle.records.proofs.Laws.Walk.{constraints-are, walk-start, walk-cons, vms-sound}
 use Rattle.records.proofs.Laws.Parts.{parts-step}
-use Rattle.rules.specs.Moments.{cell, numberOf, countsOn}
 use Rattle.rules.specs.Orders.{spreads, some, mates, meetsMate}
-use Rattle.rules.specs.Inner.{goalIn, busyFrom}
+use Rattle.rules.specs.Inner.{busyFrom}
 use Rattle.rules.proofs.Laws.Sound.{all-more}
 use Rattle.rules.proofs.Laws.Loads.{counts-is}
 use Rattle.planner.specs.Inner.{pairRow, pairRows, paired, pairedAll, Blank, Pairs}

@@ -1,14 +1,14 @@
 -- The cases on paper marked P (01, "Placements on paper"), in one lemma, computed from the definitions.
-use Prim.Native.Nat.{ℕ, _*_}
+use Prim.Native.Nat.{ℕ}
 use mathlib.Core.Bool.{true, false}
-use mathlib.Core.List.{List, [], _∷_, _++_}
-use mathlib.Core.Logic.{_⊎_, inl, inr}
+use mathlib.Core.List.{List, [], _∷_}
+use mathlib.Core.Logic.{inl}
 use mathlib.Core.Path.{_≡_, refl}
 use Rattle.records.specs.Base.{all, sumOf}
 use Rattle.records.specs.Bytes.{be16, be24, be32, bytes16, bytes32}
-use Rattle.records.specs.Room.{Room, nodeOf, vmOf, vmsOf, rows, nodeRow, vmRow, partAt, partsFrom, partsEnd, partsOf, vmsAt, nodesAt, groupsFrom, groupsEnd, constraintOf, listsEnd, roomOf, countsOk, vmOk, above, rises, listOk, has, disjoint, apart, constraintOk, filled, wellFormed, clusterCheck}
+use Rattle.records.specs.Room.{nodeOf, vmOf, vmsOf, rows, nodeRow, vmRow, partAt, partsFrom, partsEnd, partsOf, vmsAt, nodesAt, groupsFrom, groupsEnd, constraintOf, listsEnd, roomOf, countsOk, vmOk, above, rises, listOk, has, disjoint, apart, constraintOk, filled, wellFormed, clusterCheck}
 use Rattle.records.specs.Plan.{Step, moveAt, stepAt, stepsFrom, stepsEnd, stepsOf, moveTotal, sized, shaped, planCheck, moveBytes, movesBytes, stepBytes, stepsBytes, headerBytes, planBytes}
-use Rattle.rules.specs.Moments.{Placement, currentOf, targetOf, after, within, Phase, running, ended, Cell, cell, Moment, countsOn, tallyAt, phaseOf, cellsFrom, firstMoment, begun, allRunning, rests, settled}
+use Rattle.rules.specs.Moments.{currentOf, targetOf, after, within, ended, cell, countsOn, tallyAt, phaseOf, cellsFrom, firstMoment, begun, allRunning}
 use Rattle.rules.specs.Orders.{Order, done, next, begins, ends, later, SomeBegin, fits, spreads, some, mates, meetsMate}
 use Rattle.rules.specs.Rules.{keepsFrom, allowed, from, fitsAll, spreadOut, keeps, targetCheck, named, permitted, fitting, unmet, stepCheck, soundStep}
 use Rattle.rules.specs.Cost.{memoryOf, stepCost, costFrom, costOf}
@@ -22,7 +22,6 @@ use Rattle.planner.specs.Picks.{moving, away, awayCount, canGo, joined, 
 use Rattle.planner.specs.Answer.{stepsFor, madeOf, outcome, onCluster, onTarget, answerOf}
 use Rattle.planner.specs.Promises.{Stuck}
 use Rattle.planner.specs.declared.answer.Made.{Made}
-use Rattle.planner.specs.declared.answer.Answer.{Answer}
 use Rattle.planner.specs.declared.answer.Answer.the-variants.{Plan, Blocked}
 use Rattle.planner.proofs.Laws.Promised.{rest-stuck}
 

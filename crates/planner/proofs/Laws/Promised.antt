@@ -1,40 +1,37 @@
 -- The promises of `build` as theorems about `answerOf`: each field of `Built`.
-use Prim.Native.Nat.{ℕ, zero, suc, _+_, _-_, _*_, _≤_, _<_, _^_}
+use Prim.Native.Nat.{ℕ, zero, suc, _+_, _≤_, _<_, _^_}
 use mathlib.Core.Bool.{Bool, true, false, not, _&&_, false≢true}
 use mathlib.Core.List.{List, [], _∷_, _++_}
 use mathlib.Core.Logic.{_↔_, by-cases}
-use mathlib.Core.Path.{_≡_, refl, sym, ap, ap₂, _∙_}
+use mathlib.Core.Path.{_≡_, refl, sym, ap, _∙_}
 use native.Mathlib.Decide.{ℕ-discrete}
 use native.Mathlib.Omega.{arith}
-use lib.ListN.{length, getD, take, drop}
+use lib.ListN.{length, take, drop}
 use lib.Seq.{take-at}
 use lib.Dec.{ltb, eqb}
-use borrow.Author.Tests.{lt-ltb, le-ltb, eqb-true, eqb-false, ne-eqb, not-true, ltb-false, not-false}
+use borrow.Author.Tests.{le-ltb, not-true, ltb-false, not-false}
 use Rattle.records.specs.Base.{pick, all}
 use Rattle.records.specs.Bytes.{be32, bytes16, bytes32}
-use Rattle.records.specs.Room.{Room, roomOf, vmCount, clusterCheck}
+use Rattle.records.specs.Room.{Room, roomOf, clusterCheck}
 use Rattle.records.specs.Plan.{Step, moveTotal, stepsOf, shaped, stepsBytes, headerBytes, planBytes}
-use Rattle.records.specs.declared.faults.ClusterFault.{ClusterFault}
 use Rattle.records.specs.declared.faults.ClusterCheck.{ClusterCheck}
 use Rattle.records.proofs.Laws.Bools.{and-left, and-right}
 use Rattle.records.proofs.Laws.Cluster.{vms-most, vms-count}
-use Rattle.records.proofs.Laws.RoundTrip.{plan-length, plan-size, steps-of-plan, stated-is, be32-back}
+use Rattle.records.proofs.Laws.RoundTrip.{plan-length, plan-size, steps-of-plan, be32-back}
 use Rattle.rules.specs.Moments.{Placement, placeOf, currentOf, targetOf, after}
-use Rattle.rules.specs.Orders.{Run, EachBeginOfRun}
+use Rattle.rules.specs.Orders.{Run}
 use Rattle.rules.specs.Rules.{from, targetCheck}
 use Rattle.rules.specs.Cost.{costOf}
 use Rattle.rules.specs.Verdict.{home, verdictOf}
-use Rattle.rules.specs.Promises.{afterAll, soundAll, Obeys, EveryRun, StaysWithin}
-use Rattle.rules.specs.declared.faults.TargetFault.{TargetFault}
+use Rattle.rules.specs.Promises.{afterAll, soundAll}
 use Rattle.rules.specs.declared.faults.TargetCheck.{TargetCheck}
-use Rattle.rules.specs.declared.faults.Fault.{Fault}
 use Rattle.rules.specs.declared.faults.Verdict.{Verdict}
 use Rattle.rules.proofs.Laws.Planned.{planned-accepted, planned-away}
 use Rattle.rules.proofs.Laws.Runs.{sound-all-named, run-ends, run-obeys, sound-orders, stays-within}
 use Rattle.rules.proofs.Laws.Verdicts.{current-length}
-use Rattle.planner.specs.Picks.{away, awayCount, canGo, useful, directStep, pivotStep, orElse, nextStep, Picks, vmsIn}
+use Rattle.planner.specs.Picks.{away, useful, directStep, pivotStep, orElse, nextStep, Picks, vmsIn}
 use Rattle.planner.specs.Answer.{stepsFor, madeOf, outcome, onCluster, onTarget, answerOf, bufferOf, frontOf, packedAnswer}
-use Rattle.planner.specs.Promises.{Packs, Answers, Stuck, Written, Planned, Halted, Taken, Built}
+use Rattle.planner.specs.Promises.{Answers, Stuck, Written, Planned, Halted, Taken, Built}
 use Rattle.planner.specs.declared.answer.Made.{Made}
 use Rattle.planner.specs.declared.answer.BuildFault.{BuildFault}
 use Rattle.planner.specs.declared.answer.Answer.{Answer}

@@ -1,5 +1,5 @@
 -- Laws on the pass that makes the direct step: the array of destinations and the sums, VM by VM.
-use Prim.Native.Nat.{ℕ, zero, suc, _+_, _-_, _*_, _≤_, _<_, _^_}
+use Prim.Native.Nat.{ℕ, suc, _+_, _-_, _*_, _≤_, _<_}
 use mathlib.Core.Bool.{Bool, true, false, not, _&&_, and-false}
 use mathlib.Core.List.{List, [], _∷_, _++_}
 use mathlib.Core.Logic.{by-cases}
@@ -15,22 +15,22 @@ use borrow.Author.Tests.{lt-ltb, ltb-true, ne-eqb, eqb-false, not-true}
 use mir.Syntax.{w64}
 use mir.Val.{Fits}
 use Rattle.records.specs.Base.{pick, all}
-use Rattle.records.specs.Room.{Room, roomOf, vmOf, nodeCount, vmCount, clusterCheck}
-use Rattle.records.specs.Plan.{Move, Step}
+use Rattle.records.specs.Room.{roomOf, vmOf, nodeCount, vmCount, clusterCheck}
+use Rattle.records.specs.Plan.{Step}
 use Rattle.records.specs.declared.faults.ClusterCheck.the-variants.{Whole}
-use Rattle.records.proofs.Laws.Bools.{and-left, and-right, and-both}
+use Rattle.records.proofs.Laws.Bools.{and-both}
 use Rattle.records.proofs.Laws.Cluster.{nodes-most, vms-most, vms-count}
-use Rattle.rules.specs.Moments.{Placement, placeOf, targetOf, emptyTally, withVm, tallyAt, firstMoment, allRunning}
-use Rattle.rules.specs.Rules.{from, named, soundStep}
-use Rattle.rules.specs.Inner.{NeedOf, held, Placed, destsFrom, busyFrom, Loads}
+use Rattle.rules.specs.Moments.{placeOf, targetOf, emptyTally, withVm, tallyAt, firstMoment, allRunning}
+use Rattle.rules.specs.Rules.{from, soundStep}
+use Rattle.rules.specs.Inner.{NeedOf, held, destsFrom, busyFrom, Loads}
 use Rattle.rules.specs.declared.tally.Need.{Need}
 use Rattle.rules.specs.declared.tally.Tally.{Tally}
 use Rattle.rules.proofs.Laws.Adding.{joins, Joins, joins-tests, empty-sound, all-snoc, tally-there, tally-else}
-use Rattle.rules.proofs.Laws.Fit.{held-at, running-is}
+use Rattle.rules.proofs.Laws.Fit.{running-is}
 use Rattle.rules.proofs.Laws.Places.{target-at}
-use Rattle.rules.proofs.Laws.Sound.{sound-named, all-more}
+use Rattle.rules.proofs.Laws.Sound.{all-more}
 use Rattle.rules.proofs.Laws.Targets.{no-moves, dests-none}
-use Rattle.planner.specs.Picks.{moving, direct, away, joined, joinedAll, directStep, vmsIn}
+use Rattle.planner.specs.Picks.{moving, direct, away, joined, joinedAll, directStep}
 use Rattle.planner.specs.Inner.{Light, joinsIn, goalOf}
 use Rattle.planner.proofs.Laws.Joining.{with-is, dests-longer, dests-above, joins-is, longer-sound}
 

@@ -1,5 +1,6 @@
 use borrow.Author.Needs.{needs}
-use Rattle.plan.proofs.Laws.{room-is-whole, plan-is-whole}
+use Rattle.plan.proofs.Laws.{room-is-whole}
+use Rattle.rules.proofs.Laws.Turns.{plan-is-whole}
 use Rattle.plan.proofs.show.checked.Statement.{statement}
 use Rattle.plan.proofs.show.checked.Tie as tie
 use Rattle.plan.proofs.show.checked.Reads as reads
