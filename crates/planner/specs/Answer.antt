@@ -34,19 +34,19 @@ unfoldable pub outcome : Room → List Step → Answer
 outcome room steps = pick (home room (afterAll (currentOf room) steps)) (Plan (madeOf room steps)) (Blocked (madeOf room steps))
 
 -- what each check says, and what follows if it finds nothing
-unfoldable pub onCluster : ClusterCheck → Answer → Answer
-onCluster ClusterCheck.Whole rest = rest
-onCluster (ClusterCheck.Damaged fault) rest = Refused (Cluster fault)
+unfoldable pub answerCluster : ClusterCheck → Answer → Answer
+answerCluster ClusterCheck.Whole rest = rest
+answerCluster (ClusterCheck.Damaged fault) rest = Refused (Cluster fault)
 
-unfoldable pub onTarget : TargetCheck → Answer → Answer
-onTarget TargetCheck.Good rest = rest
-onTarget (TargetCheck.Bad fault) rest = Refused (Target fault)
+unfoldable pub answerTarget : TargetCheck → Answer → Answer
+answerTarget TargetCheck.Good rest = rest
+answerTarget (TargetCheck.Bad fault) rest = Refused (Target fault)
 
 -- the answer to a cluster record and a buffer of a given size: 1 to 7, 8 and 9, 10, then the outcome
 unfoldable pub answerOf : List ℕ → ℕ → Answer
 answerOf cluster size =
-    onCluster (clusterCheck cluster)
-    (onTarget (targetCheck (roomOf cluster))
+    answerCluster (clusterCheck cluster)
+    (answerTarget (targetCheck (roomOf cluster))
     (pick (ltb size 2051) (Refused Buffer)
     (outcome (roomOf cluster) (stepsFor (roomOf cluster)))))
 

@@ -5,7 +5,7 @@ use mathlib.Core.List.{List, [], _∷_, _++_}
 use mathlib.Core.Path.{_≡_}
 use lib.ListN.{length, getD, set}
 use lib.Dec.{eqb}
-use Rattle.records.specs.Base.{pick, all}
+use Rattle.records.specs.Base.{pick}
 use Rattle.records.specs.Room.{Constraint, ban, fence, spread, latency, Room, roomOf, nodeOf, vmOf, vmCount, constraintOf}
 use Rattle.records.specs.Plan.{Step, moveTotal, stepsBytes, written, shaped}
 use Rattle.rules.specs.Moments.{Placement, placeOf, currentOf, targetOf, within, withVm, tallyAt, firstMoment, allRunning}
@@ -18,6 +18,8 @@ use Rattle.rules.specs.declared.tally.Tally.{Tally}
 use Rattle.planner.specs.Picks.{moving, canGo, useful}
 use Rattle.planner.specs.Answer.{stepsFor}
 use Rattle.planner.specs.declared.steps.Trail.{Trail}
+use Rattle.planner.specs.declared.answer.Answer.{Answer}
+use Rattle.planner.specs.declared.answer.Answer.the-variants.{Plan, Blocked, Refused}
 
 -- ---- pairs of VMs that one spread names, as a table of 256 marks a VM
 
@@ -110,8 +112,8 @@ movesIn dests v zero = []
 movesIn dests v (suc n) = moveIn v (getD dests v 0) ++ movesIn dests (suc v) n
 
 -- where a VM is behind a step
-unfoldable pub settled : ℕ → ℕ → ℕ
-settled d p = pick (eqb d 64) p d
+unfoldable pub behindStep : ℕ → ℕ → ℕ
+behindStep d p = pick (eqb d 64) p d
 
 -- ---- the steps written
 
@@ -125,3 +127,11 @@ pub record Trailed (s before after : List ℕ) (r : Trail) : Type 0 where
   pub shaped : shaped (stepsFor (roomOf s)) ≡ true
   pub steps-most : length (stepsFor (roomOf s)) ≤ 511
   pub moves-most : moveTotal (stepsFor (roomOf s)) ≤ 511
+
+-- ---- the number returned
+
+-- an answer's counts and cost have room in it
+abbrev pub Packs : Answer → Type 0
+Packs (Plan made) = (made .steps < 2 ^ 9) × (made .moves < 2 ^ 9) × (made .cost < 2 ^ 43)
+Packs (Blocked made) = (made .steps < 2 ^ 9) × (made .moves < 2 ^ 9) × (made .cost < 2 ^ 43)
+Packs (Refused fault) = Unit

@@ -1,9 +1,9 @@
 -- What `build` promises of its answer and of the buffer, over every order and every whole run (the demands on planning, and 01, "The
 -- planner").
-use Prim.Native.Nat.{ℕ, _+_, _*_, _<_, _≤_, _^_}
+use Prim.Native.Nat.{ℕ, _+_, _*_, _<_, _≤_}
 use mathlib.Core.Bool.{true, false}
 use mathlib.Core.List.{List, []}
-use mathlib.Core.Logic.{_↔_}
+use mathlib.Core.Logic.{_↔_, _⊎_}
 use mathlib.Core.Path.{_≡_}
 use lib.ListN.{length}
 use Rattle.records.specs.Room.{Room, roomOf, clusterCheck}
@@ -14,29 +14,37 @@ use Rattle.rules.specs.Orders.{Run, EachBeginOfRun}
 use Rattle.rules.specs.Rules.{targetCheck, soundStep}
 use Rattle.rules.specs.Cost.{costOf}
 use Rattle.rules.specs.Verdict.{verdictOf}
-use Rattle.rules.specs.Promises.{afterAll, namedAll, Obeys, EveryRun, SoundInOrders, StaysWithin}
+use Rattle.rules.specs.Returned.{toldNumber, toldStep, toldSteps, toldMoves, toldCost, SaysGood, SaysBlocked, SaysRefused}
+use Rattle.rules.specs.Promises.{afterAll, namedAll, Obeys, EveryRun, SoundInOrders, StaysWithin, StaysApart}
 use Rattle.rules.specs.declared.faults.TargetCheck.{TargetCheck}
 use Rattle.rules.specs.declared.faults.Fault.{Fault}
 use Rattle.rules.specs.declared.faults.Verdict.{Verdict}
 use Rattle.planner.specs.Picks.{away, awayCount, canGo, useful, Picks}
-use Rattle.planner.specs.Answer.{stepsFor, answerOf, bufferOf, frontOf, packedAnswer}
+use Rattle.planner.specs.Answer.{stepsFor, answerOf, bufferOf, frontOf, buildNumber, packedAnswer}
 use Rattle.planner.specs.declared.answer.Made.{Made}
 use Rattle.planner.specs.declared.answer.Answer.{Answer}
 use Rattle.planner.specs.declared.answer.Answer.the-variants.{Plan, Blocked, Refused}
 
--- ---- the answer, with the buffer
+-- ---- the answer
 
--- an answer's counts and cost have room in the number returned
-abbrev pub Packs : Answer → Type 0
-Packs (Plan made) = (made .steps < 2 ^ 9) × (made .moves < 2 ^ 9) × (made .cost < 2 ^ 43)
-Packs (Blocked made) = (made .steps < 2 ^ 9) × (made .moves < 2 ^ 9) × (made .cost < 2 ^ 43)
-Packs (Refused fault) = Unit
-
--- an answer is the one defined, with the buffer that goes with it
+-- an answer is the one defined, and the buffer the one that goes with it
 pub record Answers (cluster : List ℕ) (answer : Answer) (before after : List ℕ) (r : Answer) : Type 0 where
   pub is : r ≡ answer
   pub buffer : after ≡ bufferOf answer (planBytes (stepsFor (roomOf cluster))) before
-  pub packs : Packs r
+
+-- the counts and the cost that a returned number tells
+abbrev pub toldMade : ℕ → Made
+toldMade r = record { steps = toldSteps r; moves = toldMoves r; cost = toldCost r }
+
+-- a number tells an answer: taken apart it says a plan or blocked with these counts and this cost, or refused with 01's number and step 0;
+-- what does not apply reads 0
+abbrev pub TellsMade : ℕ → Made → Type 0
+TellsMade r made = (toldSteps r ≡ made .steps) × (toldMoves r ≡ made .moves) × (toldCost r ≡ made .cost)
+
+abbrev pub TellsAnswer : ℕ → Answer → Type 0
+TellsAnswer r (Plan made) = SaysGood r × TellsMade r made × (toldNumber r ≡ 0) × (toldStep r ≡ 0)
+TellsAnswer r (Blocked made) = SaysBlocked r × TellsMade r made × (toldNumber r ≡ 0) × (toldStep r ≡ 0)
+TellsAnswer r (Refused fault) = SaysRefused r (buildNumber fault) 0 × (toldSteps r ≡ 0) × (toldMoves r ≡ 0) × (toldCost r ≡ 0)
 
 -- ---- blocked
 
@@ -57,8 +65,9 @@ pub record Written (cluster plan : List ℕ) (made : Made) : Type 0 where
   pub named : namedAll (roomOf cluster) (currentOf (roomOf cluster)) (stepsOf plan) ≡ true
   pub obeys : (last : Placement) (run : Run (roomOf cluster) (currentOf (roomOf cluster)) (stepsOf plan) last) → EachBeginOfRun (Obeys (roomOf cluster)) run
   pub reaches : (last : Placement) → Run (roomOf cluster) (currentOf (roomOf cluster)) (stepsOf plan) last → last ≡ afterAll (currentOf (roomOf cluster)) (stepsOf plan)
-  -- in no run does a node that is within what it has go past it, and an overfull one takes no arrival
+  -- in no run does a node that is within what it has go past it, or an overfull one take an arrival, or do mates that are apart meet
   pub auditor : StaysWithin (roomOf cluster) (currentOf (roomOf cluster)) (stepsOf plan)
+  pub apart : StaysApart (roomOf cluster) (currentOf (roomOf cluster)) (stepsOf plan)
   -- how many steps there can be, by the number of VMs out of place at the current nodes
   pub none : awayCount (roomOf cluster) (currentOf (roomOf cluster)) ≡ 0 → stepsOf plan ≡ []
   pub short : 0 < awayCount (roomOf cluster) (currentOf (roomOf cluster)) → length (stepsOf plan) + 1 ≤ 2 * awayCount (roomOf cluster) (currentOf (roomOf cluster))
@@ -68,10 +77,6 @@ pub record Written (cluster plan : List ℕ) (made : Made) : Type 0 where
   pub steps : made .steps ≡ length (stepsOf plan)
   pub moves : made .moves ≡ moveTotal (stepsOf plan)
   pub cost : made .cost ≡ costOf (roomOf cluster) (stepsOf plan)
-  -- each fits its place in the number returned
-  pub steps-below : made .steps < 2 ^ 9
-  pub moves-below : made .moves < 2 ^ 9
-  pub cost-below : made .cost < 2 ^ 43
 
 -- of a plan: every whole run obeys the rules and ends with every VM on its target, which is what `check` is exact about; and the checker
 -- accepts it at the cost given
@@ -93,18 +98,19 @@ pub record Taken (cluster buffer : List ℕ) : Type 0 where
   pub target-good : targetCheck (roomOf cluster) ≡ TargetCheck.Good
   pub buffer-long : 2051 ≤ length buffer
 
--- a field each, on any cluster record and any buffer
+-- a field each, on any cluster record and any buffer, and the number returned
 pub record Built (cluster before after : List ℕ) (r : ℕ) : Type 0 where
-  -- the number returned is the answer's
+  -- it is the answer's, and tells it
   pub is : r ≡ packedAnswer (answerOf cluster (length before))
+  pub told : TellsAnswer r (answerOf cluster (length before))
   -- every byte of the buffer is as defined
   pub buffer : after ≡ bufferOf (answerOf cluster (length before)) (planBytes (stepsFor (roomOf cluster))) before
-  -- a plan, and blocked, of the record at the buffer's front
-  pub planned : (made : Made) → answerOf cluster (length before) ≡ Plan made → Planned cluster (frontOf after) made
-  pub halted : (made : Made) → answerOf cluster (length before) ≡ Blocked made → Halted cluster (frontOf after) made
+  -- a plan or blocked, exactly if there is none of the faults 1 to 10
+  pub answers : Taken cluster before ↔ (SaysGood r ⊎ SaysBlocked r)
+  -- of a plan, and of blocked: the record at the buffer's front, with the counts and the cost told
+  pub planned : SaysGood r → Planned cluster (frontOf after) (toldMade r)
+  pub halted : SaysBlocked r → Halted cluster (frontOf after) (toldMade r)
   -- with none of the faults 1 to 10: blocked exactly if the planner is stuck at the placement that the steps reach
-  pub blocked : Taken cluster before →
-      ((made : Made) × (answerOf cluster (length before) ≡ Blocked made)) ↔
-      Stuck (roomOf cluster) (afterAll (currentOf (roomOf cluster)) (stepsOf (frontOf after)))
+  pub blocked : Taken cluster before → SaysBlocked r ↔ Stuck (roomOf cluster) (afterAll (currentOf (roomOf cluster)) (stepsOf (frontOf after)))
   -- sound, wherever Picks and Stuck say it, is sound in every order
   pub sound : (places : Placement) (step : Step) → (soundStep (roomOf cluster) places step ≡ true) ↔ SoundInOrders (roomOf cluster) places step

@@ -4,7 +4,7 @@ use rules::TargetFault;
 ghost use mathlib.Core.Path.{_≡_};
 ghost use Prim.Native.Nat.{_<_, _^_};
 ghost use Rattle.planner.specs.Answer.{buildNumber, packedMade, packedAnswer};
-ghost use Rattle.planner.specs.Promises.{Packs};
+ghost use Rattle.planner.specs.Inner.{Packs};
 
 // The record written: its steps, its moves and its cost.
 pub struct Made {

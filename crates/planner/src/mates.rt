@@ -64,15 +64,15 @@ pub fn pair_table(cluster: &[u8], table: &mut [u8; 65536])
     }
 }
 
-// Whether VM w counts on node d: it is there, or on its way there.
+// Whether VM w counts on node d: it is on its way there, or there.
 fn counts(places: &[u8; 256], dests: &[u8; 256], w: usize, d: usize) -> bool
     requires { ⌜ w < 256 ⌝ }
     ensures { λ r. ⌜ r ≡ (eqb (getD (now (places .entry)) w 0) d || eqb (getD (now (dests .entry)) w 0) d) ⌝ }
 {
-    if rules::node_at(places, w) == d {
+    if rules::node_at(dests, w) == d {
         return true;
     }
-    rules::node_at(dests, w) == d
+    rules::node_at(places, w) == d
 }
 
 // Whether a mate of VM v counts on node d, with every move of the array of destinations running.

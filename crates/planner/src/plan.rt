@@ -14,7 +14,7 @@ ghost use Rattle.records.specs.Base.{pick};
 ghost use Rattle.records.specs.Room.{roomOf, clusterCheck};
 ghost use Rattle.records.specs.declared.faults.ClusterCheck.{ClusterCheck};
 ghost use Rattle.rules.specs.Rules.{targetCheck};
-ghost use Rattle.planner.specs.Answer.{outcome, stepsFor, onTarget, answerOf};
+ghost use Rattle.planner.specs.Answer.{outcome, stepsFor, answerTarget, answerOf};
 ghost use Rattle.planner.specs.Promises.{Answers};
 ghost use Rattle.planner.specs.declared.answer.Answer.{Answer};
 ghost use Rattle.planner.specs.declared.answer.BuildFault.{BuildFault};
@@ -45,7 +45,7 @@ fn planned(cluster: &[u8], out: &mut [u8]) -> Answer
 // From the target on.
 fn plan_target(cluster: &[u8], out: &mut [u8]) -> Answer
     requires { ⌜ clusterCheck (now cluster) ≡ ClusterCheck.Whole ⌝ }
-    ensures { λ r. ⌜ Answers (now (cluster .entry)) (onTarget (targetCheck (roomOf (now (cluster .entry)))) (pick (ltb (length (now (out .entry))) 2051) (Answer.Refused BuildFault.Buffer) (outcome (roomOf (now (cluster .entry))) (stepsFor (roomOf (now (cluster .entry))))))) (now (out .entry)) (now (out .exit)) r ⌝ }
+    ensures { λ r. ⌜ Answers (now (cluster .entry)) (answerTarget (targetCheck (roomOf (now (cluster .entry)))) (pick (ltb (length (now (out .entry))) 2051) (Answer.Refused BuildFault.Buffer) (outcome (roomOf (now (cluster .entry))) (stepsFor (roomOf (now (cluster .entry))))))) (now (out .entry)) (now (out .exit)) r ⌝ }
 {
     let found = rules::target_check(cluster);
     match found {

@@ -12,7 +12,7 @@ ghost use Rattle.records.specs.declared.faults.ClusterCheck.{ClusterCheck};
 ghost use Rattle.rules.specs.Moments.{after};
 ghost use Rattle.rules.specs.Inner.{held, Allows, Placed, destsFrom};
 ghost use Rattle.planner.specs.Picks.{nextStep};
-ghost use Rattle.planner.specs.Inner.{Pairs, moveIn, movesIn, settled, Trailed};
+ghost use Rattle.planner.specs.Inner.{Pairs, moveIn, movesIn, behindStep, Trailed};
 
 // Whether some VM has a destination.
 fn has_moves(dests: &[u8; 256], n: usize) -> bool
@@ -75,7 +75,7 @@ fn put_moves(out: &mut [u8], at: usize, dests: &[u8; 256], vms: usize) -> usize
 
 // Where a VM is behind a step.
 fn settle(d: u8, p: u8) -> u8
-    ensures { λ r. ⌜ r ≡ settled d p ⌝ }
+    ensures { λ r. ⌜ r ≡ behindStep d p ⌝ }
 {
     if d == 64 { p } else { d }
 }

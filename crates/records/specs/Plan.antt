@@ -1,7 +1,7 @@
 -- The plan record (01, "The two records" and refusals 11 to 14): the steps that bytes stand for, what makes them damaged, and the
 -- record that steps are written as.
 use Prim.Native.Nat.{ℕ, zero, suc, _+_, _*_}
-use mathlib.Core.Bool.{Bool, true, false, not, _&&_}
+use mathlib.Core.Bool.{Bool, not, _&&_}
 use mathlib.Core.List.{List, [], _∷_, _++_}
 use mathlib.Core.Path.{_≡_}
 use lib.ListN.{length, getD, take, drop}
@@ -78,19 +78,19 @@ unfoldable pub shaped : List Step → Bool
 shaped steps = leb (length steps) 512 && (all sized steps && leb (moveTotal steps) 1024)
 
 -- the first fault in checking order, 11 to 14
-abbrev pub refuse : Bool → PlanFault → PlanCheck → PlanCheck
-refuse test fault rest = pick test (Damaged fault) rest
+abbrev pub refusePlan : Bool → PlanFault → PlanCheck → PlanCheck
+refusePlan test fault rest = pick test (Damaged fault) rest
 
 unfoldable pub planCheck : List ℕ → PlanCheck
 planCheck s =
-    refuse (ltb (length s) 7) TooShort
-    (refuse (not (eqb (byteAt s 0) 1)) Version
-    (refuse (not (eqb (be32 s 1) (length s))) Length
-    (refuse (not (shaped (stepsOf s) && eqb (stepsEnd s 7 (stepCount s)) (length s))) Shape
+    refusePlan (ltb (length s) 7) TooShort
+    (refusePlan (not (eqb (byteAt s 0) 1)) Version
+    (refusePlan (not (eqb (be32 s 1) (length s))) Length
+    (refusePlan (not (shaped (stepsOf s) && eqb (stepsEnd s 7 (stepCount s)) (length s))) Shape
     Whole)))
 
 -- what reading a plan record answers: that fault, and for those who compute with the record that its elements are bytes
-pub record Checked (s : List ℕ) (r : PlanCheck) : Type 0 where
+pub record PlanRead (s : List ℕ) (r : PlanCheck) : Type 0 where
   pub is : r ≡ planCheck s
   pub bytes : AreBytes s
 

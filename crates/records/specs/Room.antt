@@ -234,22 +234,22 @@ unfoldable pub wellFormed : ℕ → ℕ → List ℕ → Bool
 wellFormed v n p = filled p && constraintOk v n (constraintOf p)
 
 -- the first fault in checking order, 1 to 7
-abbrev pub refuse : Bool → ClusterFault → ClusterCheck → ClusterCheck
-refuse test fault rest = pick test (Damaged fault) rest
+abbrev pub refuseCluster : Bool → ClusterFault → ClusterCheck → ClusterCheck
+refuseCluster test fault rest = pick test (Damaged fault) rest
 
 unfoldable pub clusterCheck : List ℕ → ClusterCheck
 clusterCheck s =
-    refuse (ltb (length s) 11) TooShort
-    (refuse (not (eqb (byteAt s 0) 1)) Version
-    (refuse (not (eqb (be32 s 1) (length s)) || ltb 65535 (be32 s 1)) Length
-    (refuse (not (countsOk s)) Counts
-    (refuse (not (eqb (partsEnd s (constraintsStart s) (constraintCount s)) (length s))) Fill
-    (refuse (not (all (vmOk (nodeCount s)) (roomOf s .vms))) VmRow
-    (refuse (not (all (wellFormed (vmCount s) (nodeCount s)) (partsOf s))) BadConstraint
+    refuseCluster (ltb (length s) 11) TooShort
+    (refuseCluster (not (eqb (byteAt s 0) 1)) Version
+    (refuseCluster (not (eqb (be32 s 1) (length s)) || ltb 65535 (be32 s 1)) Length
+    (refuseCluster (not (countsOk s)) Counts
+    (refuseCluster (not (eqb (partsEnd s (constraintsStart s) (constraintCount s)) (length s))) Fill
+    (refuseCluster (not (all (vmOk (nodeCount s)) (roomOf s .vms))) VmRow
+    (refuseCluster (not (all (wellFormed (vmCount s) (nodeCount s)) (partsOf s))) BadConstraint
     Whole))))))
 
 -- what reading a cluster record answers: that fault, and for those who compute with the record that its elements are bytes
-pub record Checked (s : List ℕ) (r : ClusterCheck) : Type 0 where
+pub record ClusterRead (s : List ℕ) (r : ClusterCheck) : Type 0 where
   pub is : r ≡ clusterCheck s
   pub bytes : AreBytes s
 

@@ -15,7 +15,7 @@ ghost use Prim.Native.Nat.{_≤_, _<_, _^_};
 ghost use lib.Dec.{eqb};
 ghost use lib.ListN.{length};
 ghost use Rattle.records.specs.Base.{all};
-ghost use Rattle.records.specs.Room.{nodeCount, vmCount, constraintCount, vmsStart, constraintsStart, roomOf, partsOf, partsEnd, vmOk, wellFormed, clusterCheck, Checked};
+ghost use Rattle.records.specs.Room.{nodeCount, vmCount, constraintCount, vmsStart, constraintsStart, roomOf, partsOf, partsEnd, vmOk, wellFormed, clusterCheck, ClusterRead};
 
 // Where the VM rows start.
 pub fn vms_start(s: &[u8]) -> usize
@@ -87,7 +87,7 @@ fn first_fault(s: &[u8]) -> ClusterCheck
 
 // Whether a cluster record is whole, or its first fault.
 pub fn cluster_check(s: &[u8]) -> ClusterCheck
-    ensures { λ r. ⌜ Checked (now (s .entry)) r ⌝ }
+    ensures { λ r. ⌜ ClusterRead (now (s .entry)) r ⌝ }
 {
     first_fault(s)
 }

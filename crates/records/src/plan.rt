@@ -10,7 +10,7 @@ ghost use Prim.Native.Nat.{_+_, _≤_, _<_, _^_};
 ghost use lib.ListN.{length};
 ghost use Rattle.records.specs.Bytes.{be32};
 ghost use lib.Dec.{eqb};
-ghost use Rattle.records.specs.Plan.{stepCount, moveCount, moveOf, stepAt, stepEnd, stepsOf, stepsEnd, shaped, planCheck, Checked};
+ghost use Rattle.records.specs.Plan.{stepCount, moveCount, moveOf, stepAt, stepEnd, stepsOf, stepsEnd, shaped, planCheck, PlanRead};
 ghost use Rattle.records.specs.Inner.{stepsOk};
 ghost use Rattle.records.specs.declared.faults.PlanCheck.{PlanCheck};
 
@@ -80,7 +80,7 @@ fn first_fault(s: &[u8]) -> PlanCheck
 
 // Whether a plan record is whole, or its first fault.
 pub fn plan_check(s: &[u8]) -> PlanCheck
-    ensures { λ r. ⌜ Checked (now (s .entry)) r ⌝ }
+    ensures { λ r. ⌜ PlanRead (now (s .entry)) r ⌝ }
 {
     first_fault(s)
 }

@@ -2,7 +2,11 @@
 pub mod Orders
 pub mod Sound
 pub mod Runs
+pub mod Spreads
+pub mod Returned
 pub mod Verdicts
+pub mod Contract
+pub mod Tables
 pub mod Places
 pub mod Named
 pub mod Loads
@@ -16,5 +20,5 @@ pub mod Costs
 pub mod Targets
 pub mod Kept
 pub mod Turns
-pub mod Planned
 pub mod Adding
+pub mod Readings

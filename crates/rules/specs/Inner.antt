@@ -1,16 +1,16 @@
 -- What inner functions answer, on the way to the definitions before. Nothing here has to be believed.
-use Prim.Native.Nat.{ℕ, zero, suc, _+_, _-_, _*_, _<_, _≤_, _^_}
-use mathlib.Core.Bool.{Bool, true, false, not, _&&_, _||_}
-use mathlib.Core.List.{List, [], _∷_}
+use Prim.Native.Nat.{ℕ, zero, suc, _+_, _-_, _*_, _/_, _%_, _<_, _≤_, _^_}
+use mathlib.Core.Bool.{Bool, true, false, not, _||_}
+use mathlib.Core.List.{List, [], _∷_, _++_, map}
 use mathlib.Core.Path.{_≡_}
-use lib.ListN.{length, getD, set, take, replicate}
-use lib.Dec.{ltb, leb, eqb}
+use lib.ListN.{length, getD, set, take, drop, replicate}
+use lib.Dec.{ltb, eqb}
 use Rattle.records.specs.Base.{pick, all, sumOf}
 use Rattle.records.specs.Room.{Constraint, ban, fence, spread, latency, Room, vmOf, nodeOf, roomOf, nodeCount, vmCount, nodesOf, groupsOf, listOk, groupsFrom, groupsEnd, constraintOf, filled, clusterCheck}
 use Rattle.records.specs.Inner.{Below, Steps}
-use Rattle.records.specs.Plan.{Move, Step, moveOf, stepAt, stepEnd, stepsFrom, stepsOf}
+use Rattle.records.specs.Plan.{Step, moveOf, stepAt, stepEnd, stepsFrom, stepsOf}
 use Rattle.records.specs.declared.faults.ClusterCheck.{ClusterCheck}
-use Rattle.rules.specs.Moments.{Placement, placeOf, targetOf, Phase, idle, waiting, running, ended, Cell, cell, Moment, cellsFrom, allRunning, phaseOf, tallyAt, emptyTally, within}
+use Rattle.rules.specs.Moments.{Placement, placeOf, targetOf, Phase, idle, running, cell, Moment, tallyAt, emptyTally, within}
 use Rattle.rules.specs.Cost.{memoryOf, costOf}
 use Rattle.rules.specs.Orders.{some}
 use Rattle.rules.specs.Rules.{from, allowed, named, fitting, unmet}
@@ -41,11 +41,15 @@ pub record Holds (s places : List ℕ) (placement : Placement) : Type 0 where
   pub is : held s places ≡ placement
   pub placed : Placed s places
 
--- the first v places of an array are those of a placement
-pub record Filling (s places : List ℕ) (placement : Placement) (v : ℕ) : Type 0 where
+-- a placement as the array of 256 places that code keeps: behind the last VM they are 0
+unfoldable pub arrayOf : Placement → List ℕ
+arrayOf placement = placement ++ replicate (256 - length placement) 0
+
+-- the first v places of an array are those of a placement, all others 0
+pub record Filling (places : List ℕ) (placement : Placement) (v : ℕ) : Type 0 where
   pub size : length places ≡ 256
   pub is : take v places ≡ take v placement
-  pub below : (u : ℕ) → getD places u 0 < nodeCount s
+  pub rest : drop v places ≡ replicate (256 - v) 0
 
 -- the destination of each VM, 64 where it has no move
 unfoldable pub destsFrom : Step → List ℕ
@@ -73,10 +77,13 @@ pub record Loaded (s places dests : List ℕ) (v : ℕ) (sums : List Tally) : Ty
   pub memory-most : (d : ℕ) → getD sums d emptyTally .memory ≤ (vmCount s - v) * 16777216
   pub cpu-most : (d : ℕ) → getD sums d emptyTally .cpu ≤ (vmCount s - v) * 65536
 
--- the sums over all VMs
+-- the tallies of 65 nodes at a moment; nobody is on the last, which is no node
+unfoldable pub loadsOf : Room → Moment → List Tally
+loadsOf room cs = map (λ d. tallyAt room d cs) (from 0 65)
+
+-- the sums over all VMs are those, and a VM can be added to each
 pub record Loads (s places dests : List ℕ) (sums : List Tally) : Type 0 where
-  pub size : length sums ≡ 65
-  pub each : (d : ℕ) → d < 64 → getD sums d emptyTally ≡ tallyAt (roomOf s) d (busyFrom places dests 0 (vmCount s))
+  pub is : sums ≡ loadsOf (roomOf s) (busyFrom places dests 0 (vmCount s))
   pub memory-most : (d : ℕ) → getD sums d emptyTally .memory ≤ vmCount s * 16777216
   pub cpu-most : (d : ℕ) → getD sums d emptyTally .cpu ≤ vmCount s * 65536
 
@@ -120,7 +127,11 @@ unfoldable pub appliedAll : List ℕ → List (List ℕ) → List ℕ
 appliedAll table [] = table
 appliedAll table (p ∷ ps) = appliedAll (applied table (constraintOf p)) ps
 
--- the table tells where each VM may go
+-- the table: mark i is 1 if VM i / 64 may go to node i % 64, else 0
+unfoldable pub allowTable : Room → List ℕ
+allowTable room = map (λ i. pick (allowed room (i / 64) (i % 64)) 1 0) (from 0 16384)
+
+-- a table tells where each VM may go
 pub record Allows (s table : List ℕ) : Type 0 where
   pub each : (v d : ℕ) → v < vmCount s → d < 64 → getD table (v * 64 + d) 0 ≡ pick (allowed (roomOf s) v d) 1 0
 
@@ -218,17 +229,6 @@ pub record Grouping (p : List ℕ) (at n : ℕ) : Type 0 where
 abbrev pub stepOf : Verdict → ℕ
 stepOf (Verdict.Accepted cost) = 0
 stepOf (Verdict.Refused fault) = faultStep fault
-
--- the cost that it gives, 0 where it gives none
-abbrev pub costIn : Verdict → ℕ
-costIn (Verdict.Accepted cost) = cost
-costIn (Verdict.Refused fault) = 0
-
--- a verdict is the one defined, its step is at most 512 and its cost below 2 to the 43
-pub record Given (r verdict : Verdict) : Type 0 where
-  pub is : r ≡ verdict
-  pub most : stepOf r ≤ 512
-  pub below : costIn r < 2 ^ 43
 
 -- the checker before the last n steps: where they start, where the VMs are, the number of the next, and what is still due
 pub record Walking (s plan places : List ℕ) (at n number : ℕ) : Type 0 where

@@ -5,9 +5,9 @@ use mathlib.Core.List.{List, [], _∷_}
 use mathlib.Core.Logic.{_⊎_}
 use mathlib.Core.Path.{_≡_}
 use lib.Dec.{eqb}
-use Rattle.records.specs.Room.{Constraint, ban, fence, spread, latency, has, Room, Vm, Node, vmOf, nodeOf}
-use Rattle.records.specs.Plan.{Move, Step}
-use Rattle.rules.specs.Moments.{Placement, Phase, idle, waiting, running, ended, Cell, cell, Moment, numberOf, countsOn, within, withVm, tallyAt, firstMoment, atRest, settled, placesLeft}
+use Rattle.records.specs.Room.{Constraint, ban, fence, spread, latency, has, Room, vmOf, nodeOf}
+use Rattle.records.specs.Plan.{Step}
+use Rattle.rules.specs.Moments.{Placement, waiting, running, ended, Cell, cell, Moment, numberOf, countsOn, within, withVm, tallyAt, firstMoment, atRest, settled, placesLeft}
 
 -- ---- what happens in a step
 
@@ -57,6 +57,14 @@ mates room v w = not (eqb v w) && some (spreads v w) (room .constraints)
 -- a mate of the VM counts on the node
 unfoldable pub meetsMate : Room → Moment → ℕ → ℕ → Bool
 meetsMate room cs v d = some (λ c. mates room v (numberOf c) && countsOn d c) cs
+
+-- VM v counts on a node at a moment
+unfoldable pub standsOn : Moment → ℕ → ℕ → Bool
+standsOn cs v d = some (λ c. eqb (numberOf c) v && countsOn d c) cs
+
+-- two VMs share no node: there is none on which both count
+abbrev pub Apart : ℕ → ℕ → Moment → Type 0
+Apart v w cs = (d : ℕ) → standsOn cs v d ≡ true → standsOn cs w d ≡ true → ⊥
 
 -- ---- claims over all begins and all moments
 

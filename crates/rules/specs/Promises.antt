@@ -1,23 +1,21 @@
 -- What `check` promises of its verdict, over every order and every whole run (the demands on checking, and 01, "When a step is sound").
-use Prim.Native.Nat.{ℕ, zero, suc, _<_, _≤_, _^_}
+use Prim.Native.Nat.{ℕ, suc, _<_, _≤_, _^_}
 use mathlib.Core.Bool.{Bool, true, false, _&&_}
 use mathlib.Core.List.{List, [], _∷_}
 use mathlib.Core.Logic.{_↔_}
 use mathlib.Core.Path.{_≡_}
 use lib.ListN.{length, getD, take}
-use Rattle.records.specs.Room.{Node, Room, nodeOf, roomOf, clusterCheck}
+use Rattle.records.specs.Room.{Room, nodeOf, roomOf, clusterCheck}
 use Rattle.records.specs.Plan.{Step, stepsOf, planCheck}
 use Rattle.records.specs.declared.faults.ClusterCheck.{ClusterCheck}
 use Rattle.records.specs.declared.faults.PlanCheck.{PlanCheck}
-use Rattle.rules.specs.Moments.{Placement, currentOf, after, Moment, tallyAt, within, firstMoment, atRest, settled}
-use Rattle.rules.specs.Orders.{Order, Run, fits, meetsMate, MayBegin, EachBegin, SomeBegin, EachBeginOfRun, EachMomentOfRun, EachChangeOfRun}
+use Rattle.rules.specs.Moments.{Placement, placeOf, currentOf, targetOf, after, Moment, tallyAt, within, firstMoment, atRest, settled}
+use Rattle.rules.specs.Orders.{Order, Run, fits, mates, meetsMate, Apart, MayBegin, EachBegin, SomeBegin, EachBeginOfRun, EachMomentOfRun, EachChangeOfRun}
 use Rattle.rules.specs.Rules.{allowed, targetCheck, named, permitted, soundStep}
 use Rattle.rules.specs.Cost.{costOf}
-use Rattle.rules.specs.Verdict.{home, verdictOf, packed}
-use Rattle.rules.specs.declared.tally.Tally.{Tally}
+use Rattle.rules.specs.Verdict.{home, verdictOf, faultNumber, faultStep, packed}
+use Rattle.rules.specs.Returned.{toldNumber, toldStep, toldCost, SaysGood, SaysRefused}
 use Rattle.rules.specs.declared.faults.TargetCheck.{TargetCheck}
-use Rattle.rules.specs.declared.faults.StepFault.{StepFault}
-use Rattle.rules.specs.declared.faults.Fault.{Fault}
 use Rattle.rules.specs.declared.faults.Verdict.{Verdict}
 
 -- the placement behind the last of the steps
@@ -63,23 +61,45 @@ pub record SomeOrder (room : Room) (places : Placement) (step : Step) (P : Momen
   pub whole : settled end ≡ true
   pub begin : SomeBegin P order
 
--- the steps before step n (counted from 0) are sound, and step n has neither fault 15 nor 16
-pub record FirstAt (room : Room) (places : Placement) (steps : List Step) (n : ℕ) : Type 0 where
+-- ---- what the numbers 15 to 19 mean
+
+-- 15: a VM is not there or not above the one before it, or a destination is not there or is its VM's place
+pub record FaultNames (room : Room) (places : Placement) (step : Step) : Type 0 where
+  pub misnamed : named room places 0 step ≡ false
+
+-- 16: not 15, and some destination is banned or outside a fence
+pub record FaultDestination (room : Room) (places : Placement) (step : Step) : Type 0 where
+  pub well-named : named room places 0 step ≡ true
+  pub forbidden : permitted room step ≡ false
+
+-- 17: neither 15 nor 16, and some order has a begin without room
+pub record FaultFit (room : Room) (places : Placement) (step : Step) : Type 0 where
+  pub well-named : named room places 0 step ≡ true
+  pub permitted : permitted room step ≡ true
+  pub misfit : SomeOrder room places step (λ cs v d. fits room cs v d ≡ false)
+
+-- 18: neither 15 nor 16, no order has a begin without room, and some order has a begin beside a mate
+pub record FaultMate (room : Room) (places : Placement) (step : Step) : Type 0 where
+  pub well-named : named room places 0 step ≡ true
+  pub permitted : permitted room step ≡ true
+  pub fit : SomeOrder room places step (λ cs v d. fits room cs v d ≡ false) → ⊥
+  pub mate : SomeOrder room places step (λ cs v d. meetsMate room cs v d ≡ true)
+
+-- step n, counted from 0, is the first at fault, and P is its fault: the steps before it are sound, and P holds of it at the placement from
+-- which it starts in every run
+pub record FirstAtFault (room : Room) (places : Placement) (steps : List Step) (n : ℕ) (P : Placement → Step → Type 0) : Type 0 where
   pub there : n < length steps
   pub earlier : soundAll room places (take n steps) ≡ true
-  pub well-named : named room (afterAll places (take n steps)) 0 (getD steps n []) ≡ true
-  pub permitted : permitted room (getD steps n []) ≡ true
+  pub fault : (start : Placement) → Run room places (take n steps) start → P start (getD steps n [])
 
--- 17 of step n: all is well before, but one of its orders has a begin without room
-pub record MisfitAt (room : Room) (places : Placement) (steps : List Step) (n : ℕ) : Type 0 where
-  pub first : FirstAt room places steps n
-  pub misfit : SomeOrder room (afterAll places (take n steps)) (getD steps n []) (λ cs v d. fits room cs v d ≡ false)
+-- 19: no step is at fault, every run obeys the rules at each begin, and every run ends with some VM off its target
+pub record EndsAway (room : Room) (places : Placement) (steps : List Step) : Type 0 where
+  pub sound : soundAll room places steps ≡ true
+  pub obeys : (last : Placement) (run : Run room places steps last) → EachBeginOfRun (Obeys room) run
+  pub away : (last : Placement) → Run room places steps last →
+      (v : ℕ) × (v < length (room .vms)) × (placeOf last v ≡ placeOf (targetOf room) v → ⊥)
 
--- 18 of step n: all is well before, no order has a begin without room, but one has a begin beside a mate
-pub record MateAt (room : Room) (places : Placement) (steps : List Step) (n : ℕ) : Type 0 where
-  pub first : FirstAt room places steps n
-  pub fit : SomeOrder room (afterAll places (take n steps)) (getD steps n []) (λ cs v d. fits room cs v d ≡ false) → ⊥
-  pub mate : SomeOrder room (afterAll places (take n steps)) (getD steps n []) (λ cs v d. meetsMate room cs v d ≡ true)
+-- ---- what holds at every moment of every run
 
 -- the auditor's first question, in every run. From one moment to the next a node never goes past its memory, nor past its CPU, if it was
 -- within; so one that starts within is within at every moment; and a move begins only where it fits, so an overfull node takes none
@@ -97,24 +117,46 @@ pub record StaysWithin (room : Room) (places : Placement) (steps : List Step) : 
   pub arrivals : (last : Placement) (run : Run room places steps last) →
       EachBeginOfRun (λ cs v d. (fits room cs v d ≡ true) × (within (nodeOf room d) (tallyAt room d cs) ≡ true)) run
 
--- the promises, a field each
+-- spreads, in every run. From one moment to the next two mates that share no node never come to share one, a running VM counting on both of
+-- its nodes; so mates that are apart at the start are apart at every moment
+pub record StaysApart (room : Room) (places : Placement) (steps : List Step) : Type 0 where
+  pub stays : (last : Placement) (run : Run room places steps last) (v w : ℕ) → mates room v w ≡ true →
+      EachChangeOfRun (λ cs ds. Apart v w cs → Apart v w ds) run
+  pub apart : (last : Placement) (run : Run room places steps last) (v w : ℕ) → mates room v w ≡ true →
+      Apart v w (atRest room places) → EachMomentOfRun (Apart v w) run
+
+-- ---- the promises
+
+-- a number tells a verdict: taken apart it says accepted and the cost, or refused with 01's number and step; what does not apply reads 0
+abbrev pub TellsVerdict : ℕ → Verdict → Type 0
+TellsVerdict r (Verdict.Accepted cost) = SaysGood r × (toldCost r ≡ cost) × (toldNumber r ≡ 0) × (toldStep r ≡ 0)
+TellsVerdict r (Verdict.Refused fault) = SaysRefused r (faultNumber fault) (faultStep fault) × (toldCost r ≡ 0)
+
+-- a field each, on any two byte strings and the number returned
 pub record Checked (cluster plan : List ℕ) (r : ℕ) : Type 0 where
-  -- the number returned is the verdict's
+  -- it is the verdict's, and tells it
   pub is : r ≡ packed (verdictOf cluster plan)
+  pub told : TellsVerdict r (verdictOf cluster plan)
   -- with none of the faults 1 to 9 and 11 to 15: accepted exactly if every run obeys the rules and ends on the target
   pub exact : Shaped cluster plan → namedAll (roomOf cluster) (currentOf (roomOf cluster)) (stepsOf plan) ≡ true →
-      ((cost : ℕ) × (verdictOf cluster plan ≡ Verdict.Accepted cost)) ↔ EveryRun (roomOf cluster) (currentOf (roomOf cluster)) (stepsOf plan)
+      SaysGood r ↔ EveryRun (roomOf cluster) (currentOf (roomOf cluster)) (stepsOf plan)
   -- and nothing else is accepted
-  pub only : (cost : ℕ) → verdictOf cluster plan ≡ Verdict.Accepted cost →
-      Shaped cluster plan × (namedAll (roomOf cluster) (currentOf (roomOf cluster)) (stepsOf plan) ≡ true)
-  -- 17 and 18 mean what they say
-  pub misfit : Shaped cluster plan → (n : ℕ) →
-      (verdictOf cluster plan ≡ Verdict.Refused (Fault.Step StepFault.Misfit (suc n))) ↔ MisfitAt (roomOf cluster) (currentOf (roomOf cluster)) (stepsOf plan) n
-  pub mate : Shaped cluster plan → (n : ℕ) →
-      (verdictOf cluster plan ≡ Verdict.Refused (Fault.Step StepFault.Mate (suc n))) ↔ MateAt (roomOf cluster) (currentOf (roomOf cluster)) (stepsOf plan) n
-  -- an accepted plan costs what Entropy estimates
-  pub cost : (cost : ℕ) → verdictOf cluster plan ≡ Verdict.Accepted cost → cost ≡ costOf (roomOf cluster) (stepsOf plan)
-  -- which is below 2 to the 43, so that a refusal's bit 63 tells the two apart
-  pub below : (cost : ℕ) → verdictOf cluster plan ≡ Verdict.Accepted cost → cost < 2 ^ 43
-  -- and no run of it takes a node past what it has
-  pub auditor : (cost : ℕ) → verdictOf cluster plan ≡ Verdict.Accepted cost → StaysWithin (roomOf cluster) (currentOf (roomOf cluster)) (stepsOf plan)
+  pub only : SaysGood r → Shaped cluster plan × (namedAll (roomOf cluster) (currentOf (roomOf cluster)) (stepsOf plan) ≡ true)
+  -- 15 to 19 mean what they say
+  pub misnamed : (n : ℕ) → SaysRefused r 15 (suc n) ↔
+      (Shaped cluster plan × FirstAtFault (roomOf cluster) (currentOf (roomOf cluster)) (stepsOf plan) n (FaultNames (roomOf cluster)))
+  pub forbidden : (n : ℕ) → SaysRefused r 16 (suc n) ↔
+      (Shaped cluster plan × FirstAtFault (roomOf cluster) (currentOf (roomOf cluster)) (stepsOf plan) n (FaultDestination (roomOf cluster)))
+  pub misfit : (n : ℕ) → SaysRefused r 17 (suc n) ↔
+      (Shaped cluster plan × FirstAtFault (roomOf cluster) (currentOf (roomOf cluster)) (stepsOf plan) n (FaultFit (roomOf cluster)))
+  pub mate : (n : ℕ) → SaysRefused r 18 (suc n) ↔
+      (Shaped cluster plan × FirstAtFault (roomOf cluster) (currentOf (roomOf cluster)) (stepsOf plan) n (FaultMate (roomOf cluster)))
+  pub off-target : SaysRefused r 19 0 ↔ (Shaped cluster plan × EndsAway (roomOf cluster) (currentOf (roomOf cluster)) (stepsOf plan))
+  -- an accepted plan costs what Entropy estimates, which is below 2 to the 43
+  pub cost : SaysGood r → toldCost r ≡ costOf (roomOf cluster) (stepsOf plan)
+  pub below : SaysGood r → toldCost r < 2 ^ 43
+  -- no run of it takes a node past what it has, or brings mates together
+  pub auditor : SaysGood r → StaysWithin (roomOf cluster) (currentOf (roomOf cluster)) (stepsOf plan)
+  pub apart : SaysGood r → StaysApart (roomOf cluster) (currentOf (roomOf cluster)) (stepsOf plan)
+  -- sound, wherever it is said here, is sound in every order
+  pub sound : (places : Placement) (step : Step) → (soundStep (roomOf cluster) places step ≡ true) ↔ SoundInOrders (roomOf cluster) places step

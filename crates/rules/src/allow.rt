@@ -5,10 +5,10 @@ ghost use mathlib.Core.Path.{_≡_};
 ghost use mathlib.Core.Bool.{true};
 ghost use Prim.Native.Nat.{_<_};
 ghost use lib.ListN.{replicate};
-ghost use Rattle.records.specs.Room.{nodesOf, constraintOf, filled, clusterCheck};
+ghost use Rattle.records.specs.Room.{nodesOf, constraintOf, roomOf, filled, clusterCheck};
 ghost use Rattle.records.specs.Inner.{Below};
 ghost use Rattle.records.specs.declared.faults.ClusterCheck.{ClusterCheck};
-ghost use Rattle.rules.specs.Inner.{keptMark, rowKept, listKept, stopped, applied, Allows};
+ghost use Rattle.rules.specs.Inner.{keptMark, rowKept, listKept, stopped, applied, allowTable};
 
 // A mark, taken away where the node is stopped.
 fn kept(stop: u8, old: u8) -> u8
@@ -79,7 +79,7 @@ fn apply(p: &[u8], table: &mut [u8; 16384])
 // The whole table.
 pub fn allow_table(cluster: &[u8]) -> [u8; 16384]
     requires { ⌜ clusterCheck (now cluster) ≡ ClusterCheck.Whole ⌝ }
-    ensures { λ r. ⌜ Allows (now (cluster .entry)) r ⌝ }
+    ensures { λ r. ⌜ r ≡ allowTable (roomOf (now (cluster .entry))) ⌝ }
 {
     let mut table = [1u8; 16384];
     let mut at = records::first_constraint(cluster);

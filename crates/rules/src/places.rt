@@ -6,12 +6,12 @@ ghost use Rattle.records.specs.Room.{roomOf, clusterCheck};
 ghost use Rattle.records.specs.Plan.{stepAt, stepEnd};
 ghost use Rattle.records.specs.declared.faults.ClusterCheck.{ClusterCheck};
 ghost use Rattle.rules.specs.Moments.{currentOf, targetOf, after};
-ghost use Rattle.rules.specs.Inner.{Holds, destsFrom};
+ghost use Rattle.rules.specs.Inner.{arrayOf, destsFrom};
 
 // Where the VMs are.
 pub fn current_places(cluster: &[u8]) -> [u8; 256]
     requires { ⌜ clusterCheck (now cluster) ≡ ClusterCheck.Whole ⌝ }
-    ensures { λ r. ⌜ Holds (now (cluster .entry)) r (currentOf (roomOf (now (cluster .entry)))) ⌝ }
+    ensures { λ r. ⌜ r ≡ arrayOf (currentOf (roomOf (now (cluster .entry)))) ⌝ }
 {
     let n = records::vm_count(cluster);
     let mut places = [0u8; 256];
@@ -26,7 +26,7 @@ pub fn current_places(cluster: &[u8]) -> [u8; 256]
 // Where the VMs are wanted.
 pub fn target_places(cluster: &[u8]) -> [u8; 256]
     requires { ⌜ clusterCheck (now cluster) ≡ ClusterCheck.Whole ⌝ }
-    ensures { λ r. ⌜ Holds (now (cluster .entry)) r (targetOf (roomOf (now (cluster .entry)))) ⌝ }
+    ensures { λ r. ⌜ r ≡ arrayOf (targetOf (roomOf (now (cluster .entry)))) ⌝ }
 {
     let n = records::vm_count(cluster);
     let mut places = [0u8; 256];

@@ -38,8 +38,8 @@ pub fn well_named(cluster: &[u8], plan: &[u8], at: usize, places: &[u8; 256]) ->
         if nodes <= d {
             return false;
         }
-        let p = node_at(places, v);
-        if d == p {
+        let source = node_at(places, v);
+        if d == source {
             return false;
         }
         least = v + 1;
@@ -65,6 +65,7 @@ pub fn loads(cluster: &[u8], places: &[u8; 256], dests: &[u8; 256]) -> [Tally; 6
         let there = sums[d];
         sums[d] = there.with(vm);
     }
+    sums[64] = Tally::EMPTY;
     sums
 }
 

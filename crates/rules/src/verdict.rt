@@ -22,12 +22,12 @@ ghost use Rattle.records.specs.declared.faults.ClusterCheck.{ClusterCheck};
 ghost use Rattle.records.specs.declared.faults.PlanCheck.{PlanCheck};
 ghost use Rattle.rules.specs.Rules.{targetCheck};
 ghost use Rattle.rules.specs.Verdict.{onTarget, onPlan, planVerdict, verdictOf, packed};
-ghost use Rattle.rules.specs.Inner.{Allows, Given, stepOf};
+ghost use Rattle.rules.specs.Inner.{Allows, stepOf};
 
 // The steps in turn, each from a copy of the placement before it; then 19, else the cost.
 fn steps_verdict(cluster: &[u8], plan: &[u8], table: &[u8; 16384]) -> Verdict
     requires { ⌜ (clusterCheck (now cluster) ≡ ClusterCheck.Whole) × (planCheck (now plan) ≡ PlanCheck.Whole) × Allows (now cluster) (now table) ⌝ }
-    ensures { λ r. ⌜ Given r (planVerdict (roomOf (now (cluster .entry))) (stepsOf (now (plan .entry)))) ⌝ }
+    ensures { λ r. ⌜ r ≡ planVerdict (roomOf (now (cluster .entry))) (stepsOf (now (plan .entry))) ⌝ }
 {
     let mut places = current_places(cluster);
     let mut at: usize = 7;
@@ -53,7 +53,7 @@ fn steps_verdict(cluster: &[u8], plan: &[u8], table: &[u8; 16384]) -> Verdict
 // From the plan's shape on.
 fn plan_verdict(cluster: &[u8], plan: &[u8]) -> Verdict
     requires { ⌜ clusterCheck (now cluster) ≡ ClusterCheck.Whole ⌝ }
-    ensures { λ r. ⌜ Given r (onPlan (planCheck (now (plan .entry))) (planVerdict (roomOf (now (cluster .entry))) (stepsOf (now (plan .entry))))) ⌝ }
+    ensures { λ r. ⌜ r ≡ onPlan (planCheck (now (plan .entry))) (planVerdict (roomOf (now (cluster .entry))) (stepsOf (now (plan .entry)))) ⌝ }
 {
     let found = records::plan_check(plan);
     match found {
@@ -68,7 +68,7 @@ fn plan_verdict(cluster: &[u8], plan: &[u8]) -> Verdict
 // From the target on.
 fn target_verdict(cluster: &[u8], plan: &[u8]) -> Verdict
     requires { ⌜ clusterCheck (now cluster) ≡ ClusterCheck.Whole ⌝ }
-    ensures { λ r. ⌜ Given r (onTarget (targetCheck (roomOf (now (cluster .entry)))) (onPlan (planCheck (now (plan .entry))) (planVerdict (roomOf (now (cluster .entry))) (stepsOf (now (plan .entry)))))) ⌝ }
+    ensures { λ r. ⌜ r ≡ onTarget (targetCheck (roomOf (now (cluster .entry)))) (onPlan (planCheck (now (plan .entry))) (planVerdict (roomOf (now (cluster .entry))) (stepsOf (now (plan .entry))))) ⌝ }
 {
     let found = target_check(cluster);
     match found {
@@ -79,7 +79,7 @@ fn target_verdict(cluster: &[u8], plan: &[u8]) -> Verdict
 
 // The verdict on a plan for a cluster.
 pub fn verdict_on(cluster: &[u8], plan: &[u8]) -> Verdict
-    ensures { λ r. ⌜ Given r (verdictOf (now (cluster .entry)) (now (plan .entry))) ⌝ }
+    ensures { λ r. ⌜ r ≡ verdictOf (now (cluster .entry)) (now (plan .entry)) ⌝ }
 {
     let found = records::cluster_check(cluster);
     match found {

@@ -1,5 +1,5 @@
 -- Laws on the answer: the record that is written, the refusals in their turn.
-use Prim.Native.Nat.{ℕ, _+_, _≤_, _<_, _^_}
+use Prim.Native.Nat.{ℕ, _+_, _≤_, _<_}
 use mathlib.Core.Bool.{true, false}
 use mathlib.Core.List.{List, _++_}
 use mathlib.Core.Path.{_≡_, refl, sym, ap, _∙_}
@@ -24,7 +24,7 @@ use Rattle.rules.specs.Verdict.{home}
 use Rattle.rules.specs.Promises.{afterAll}
 use Rattle.rules.specs.declared.faults.TargetFault.{TargetFault}
 use Rattle.rules.specs.declared.faults.TargetCheck.{TargetCheck}
-use Rattle.planner.specs.Answer.{stepsFor, madeOf, outcome, onCluster, onTarget, answerOf, bufferOf}
+use Rattle.planner.specs.Answer.{stepsFor, madeOf, outcome, answerCluster, answerTarget, answerOf, bufferOf}
 use Rattle.planner.specs.Promises.{Answers}
 use Rattle.planner.specs.Inner.{Trailed}
 use Rattle.planner.specs.declared.steps.Trail.{Trail}
@@ -78,7 +78,7 @@ module _ (s before mid : List ℕ) (trail : Trail) (t : Trailed s before mid tra
     pub part-whole : planCheck (take (trail .end) out) ≡ PlanCheck.Whole
     part-whole = ap planCheck part-is ∙ plan-whole (stepsFor (roomOf s)) (t .shaped)
 
-    module _ (cost : ℕ) (c : cost ≡ costOf (roomOf s) (stepsOf (take (trail .end) out))) (low : cost < 2 ^ 43) where
+    module _ (cost : ℕ) (c : cost ≡ costOf (roomOf s) (stepsOf (take (trail .end) out))) where
       cost-is : cost ≡ costOf (roomOf s) (stepsFor (roomOf s))
       cost-is = c ∙ ap (costOf (roomOf s)) (ap stepsOf part-is ∙ steps-of-plan (stepsFor (roomOf s)) (t .shaped))
 
@@ -89,23 +89,17 @@ module _ (s before mid : List ℕ) (trail : Trail) (t : Trailed s before mid tra
       unfolding made madeOf
       made-is i = record { steps = t .steps i; moves = t .moves i; cost = cost-is i }
 
-      steps-low : trail .steps < 2 ^ 9
-      steps-low = let a = t .steps in let m = t .steps-most in omega arith
-
-      moves-low : trail .moves < 2 ^ 9
-      moves-low = let a = t .moves in let m = t .moves-most in omega arith
-
       pub answer-plan : trail .home ≡ true → Answers s (outcome (roomOf s) (stepsFor (roomOf s))) before out (Plan (record { steps = trail .steps; moves = trail .moves; cost = cost }))
       unfolding made outcome bufferOf
       answer-plan h =
           let k : home (roomOf s) (afterAll (currentOf (roomOf s)) (stepsFor (roomOf s))) ≡ true = sym (t .home) ∙ h in
-          record { is = rw k (ap Plan made-is); buffer = rw k record-is; packs = (steps-low, moves-low, low) }
+          record { is = rw k (ap Plan made-is); buffer = rw k record-is }
 
       pub answer-blocked : trail .home ≡ false → Answers s (outcome (roomOf s) (stepsFor (roomOf s))) before out (Blocked (record { steps = trail .steps; moves = trail .moves; cost = cost }))
       unfolding made outcome bufferOf
       answer-blocked h =
           let k : home (roomOf s) (afterAll (currentOf (roomOf s)) (stepsFor (roomOf s))) ≡ false = sym (t .home) ∙ h in
-          record { is = rw k (ap Blocked made-is); buffer = rw k record-is; packs = (steps-low, moves-low, low) }
+          record { is = rw k (ap Blocked made-is); buffer = rw k record-is }
 
 -- ---- the refusals
 
@@ -115,38 +109,38 @@ answers-same s before after one two r e a = rw e at a
 
 refused-same : (s before : List ℕ) (answer : Answer) (f : BuildFault) → answer ≡ Refused f → Answers s answer before before (Refused f)
 unfolding bufferOf
-refused-same s before answer f e = rw e (record { is = refl; buffer = refl; packs = tt })
+refused-same s before answer f e = rw e (record { is = refl; buffer = refl })
 
 module _ (s before : List ℕ) (rest : Answer) (found : TargetCheck) (e : found ≡ targetCheck (roomOf s)) where
   pub answer-target : (f : TargetFault) → found ≡ TargetCheck.Bad f →
-      Answers s (onTarget (targetCheck (roomOf s)) (pick (ltb (length before) 2051) (Refused Buffer) rest)) before before (Refused (Target f))
-  unfolding onTarget
-  answer-target f g = refused-same s before (onTarget (targetCheck (roomOf s)) (pick (ltb (length before) 2051) (Refused Buffer) rest)) (Target f) (rw (sym e ∙ g))
+      Answers s (answerTarget (targetCheck (roomOf s)) (pick (ltb (length before) 2051) (Refused Buffer) rest)) before before (Refused (Target f))
+  unfolding answerTarget
+  answer-target f g = refused-same s before (answerTarget (targetCheck (roomOf s)) (pick (ltb (length before) 2051) (Refused Buffer) rest)) (Target f) (rw (sym e ∙ g))
 
   module _ (g : found ≡ TargetCheck.Good) where
-    pub answer-buffer : length before < 2051 → Answers s (onTarget (targetCheck (roomOf s)) (pick (ltb (length before) 2051) (Refused Buffer) rest)) before before (Refused Buffer)
-    unfolding onTarget
+    pub answer-buffer : length before < 2051 → Answers s (answerTarget (targetCheck (roomOf s)) (pick (ltb (length before) 2051) (Refused Buffer) rest)) before before (Refused Buffer)
+    unfolding answerTarget
     answer-buffer h =
-        refused-same s before (onTarget (targetCheck (roomOf s)) (pick (ltb (length before) 2051) (Refused Buffer) rest)) Buffer (rw (sym e ∙ g, lt-ltb (length before) 2051 h))
+        refused-same s before (answerTarget (targetCheck (roomOf s)) (pick (ltb (length before) 2051) (Refused Buffer) rest)) Buffer (rw (sym e ∙ g, lt-ltb (length before) 2051 h))
 
     pub answer-taken : (after : List ℕ) (r : Answer) → Answers s rest before after r → 2051 ≤ length before →
-        Answers s (onTarget (targetCheck (roomOf s)) (pick (ltb (length before) 2051) (Refused Buffer) rest)) before after r
-    unfolding onTarget
+        Answers s (answerTarget (targetCheck (roomOf s)) (pick (ltb (length before) 2051) (Refused Buffer) rest)) before after r
+    unfolding answerTarget
     answer-taken after r a h =
-        answers-same s before after rest (onTarget (targetCheck (roomOf s)) (pick (ltb (length before) 2051) (Refused Buffer) rest)) r (rw (sym e ∙ g, le-ltb (length before) 2051 h)) a
+        answers-same s before after rest (answerTarget (targetCheck (roomOf s)) (pick (ltb (length before) 2051) (Refused Buffer) rest)) r (rw (sym e ∙ g, le-ltb (length before) 2051 h)) a
 
 module _ (s before : List ℕ) (found : ClusterCheck) (e : found ≡ clusterCheck s) where
   pub answer-cluster : (f : ClusterFault) → found ≡ ClusterCheck.Damaged f → Answers s (answerOf s (length before)) before before (Refused (Cluster f))
-  unfolding answerOf onCluster
+  unfolding answerOf answerCluster
   answer-cluster f g = refused-same s before (answerOf s (length before)) (Cluster f) (rw (sym e ∙ g))
 
   pub cluster-whole : found ≡ ClusterCheck.Whole → clusterCheck s ≡ ClusterCheck.Whole
   cluster-whole g = sym e ∙ g
 
   pub answer-whole : (after : List ℕ) (r : Answer) →
-      Answers s (onTarget (targetCheck (roomOf s)) (pick (ltb (length before) 2051) (Refused Buffer) (outcome (roomOf s) (stepsFor (roomOf s))))) before after r →
+      Answers s (answerTarget (targetCheck (roomOf s)) (pick (ltb (length before) 2051) (Refused Buffer) (outcome (roomOf s) (stepsFor (roomOf s))))) before after r →
       found ≡ ClusterCheck.Whole → Answers s (answerOf s (length before)) before after r
-  unfolding answerOf onCluster
+  unfolding answerOf answerCluster
   answer-whole after r a g =
-      answers-same s before after (onTarget (targetCheck (roomOf s)) (pick (ltb (length before) 2051) (Refused Buffer) (outcome (roomOf s) (stepsFor (roomOf s)))))
+      answers-same s before after (answerTarget (targetCheck (roomOf s)) (pick (ltb (length before) 2051) (Refused Buffer) (outcome (roomOf s) (stepsFor (roomOf s)))))
       (answerOf s (length before)) r (rw (sym e ∙ g)) a

@@ -24,10 +24,11 @@ use Rattle.rules.specs.Moments.{Placement, currentOf, after}
 use Rattle.rules.specs.Rules.{named, soundStep}
 use Rattle.rules.specs.Verdict.{home}
 use Rattle.rules.specs.Promises.{afterAll}
-use Rattle.rules.specs.Inner.{held, Placed, Holds, destsFrom}
+use Rattle.rules.specs.Inner.{held, Placed, arrayOf, destsFrom}
 use Rattle.rules.proofs.Laws.Fit.{dests-length}
 use Rattle.rules.proofs.Laws.Orders.{named-least, named-vm, named-node, named-off, named-rest, named-cons, after-length}
-use Rattle.rules.proofs.Laws.Planned.{after-all-snoc}
+use Rattle.rules.proofs.Laws.Runs.{after-all-snoc}
+use Rattle.rules.proofs.Laws.Places.{current-holds}
 use Rattle.rules.proofs.Laws.Sound.{sound-named}
 use Rattle.rules.proofs.Laws.Turns.{after-held, after-placed}
 use Rattle.rules.proofs.Laws.Verdicts.{current-length}
@@ -136,10 +137,11 @@ pub record Making (s before out places : List ℕ) (end steps moves : ℕ) : Typ
   pub fewer : steps ≤ moves
   pub spare : moves + budget (roomOf s) (held s places) ≤ 511
 
-pub making-start : (s before places : List ℕ) → Holds s places (currentOf (roomOf s)) → length places ≡ 256 → clusterCheck s ≡ Whole → 2051 ≤ length before →
+pub making-start : (s before places : List ℕ) → places ≡ arrayOf (currentOf (roomOf s)) → length places ≡ 256 → clusterCheck s ≡ Whole → 2051 ≤ length before →
     Making s before before places 7 0 0
 unfolding stepsBytes moveTotal sumOf afterAll
-making-start s before places h z w b =
+making-start s before places a z w b =
+    let h = current-holds s places a w in
     let m = vms-most s w in let n = vms-count s in let k = budget-511 (roomOf s) (held s places) (omega arith) in
     record {
       done = [];

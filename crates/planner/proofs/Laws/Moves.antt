@@ -16,7 +16,7 @@ use Rattle.records.proofs.Laws.RoundTrip.{moves-length}
 use Rattle.records.proofs.Laws.Written.{written-next, written-length}
 use Rattle.rules.specs.Moments.{after}
 use Rattle.planner.specs.Picks.{moving}
-use Rattle.planner.specs.Inner.{moveIn, movesIn, settled}
+use Rattle.planner.specs.Inner.{moveIn, movesIn, behindStep}
 
 -- ---- the moves of one VM
 
@@ -28,13 +28,13 @@ pub move-one : (v d : ℕ) → (d ≡ 64 → ⊥) → moveIn v d ≡ moving v d 
 unfolding moveIn
 move-one v d e = rw (ne-eqb d 64 e)
 
-pub settled-stays : (d p : ℕ) → d ≡ 64 → p ≡ settled d p
-unfolding settled
-settled-stays d p e = rw (eq-eqb d 64 e)
+pub behind-step-stays : (d p : ℕ) → d ≡ 64 → p ≡ behindStep d p
+unfolding behindStep
+behind-step-stays d p e = rw (eq-eqb d 64 e)
 
-pub settled-goes : (d p : ℕ) → (d ≡ 64 → ⊥) → d ≡ settled d p
-unfolding settled
-settled-goes d p e = rw (ne-eqb d 64 e)
+pub behind-step-goes : (d p : ℕ) → (d ≡ 64 → ⊥) → d ≡ behindStep d p
+unfolding behindStep
+behind-step-goes d p e = rw (ne-eqb d 64 e)
 
 -- ---- what is left
 
@@ -77,9 +77,9 @@ unfolding after
 after-one next v d rest true e = ap (λ (p : List ℕ). after p rest) (sym (set-getD next v 0))
 after-one next v d rest false e = refl
 
-pub moved-more : (next dests result : List ℕ) (n v x : ℕ) → x ≡ settled (getD dests v 0) (getD next v 0) → after next (movesIn dests v (n - v)) ≡ result → v < n →
+pub moved-more : (next dests result : List ℕ) (n v x : ℕ) → x ≡ behindStep (getD dests v 0) (getD next v 0) → after next (movesIn dests v (n - v)) ≡ result → v < n →
     after (set next v x) (movesIn dests (v + 1) (n - (v + 1))) ≡ result
-unfolding settled moveIn
+unfolding behindStep moveIn
 moved-more next dests result n v x e inv h =
     rw (add-one, e)
     (sym (after-one next v (getD dests v 0) (movesIn dests (suc v) (n - suc v)) (eqb (getD dests v 0) 64) refl) ∙

@@ -1,6 +1,6 @@
 -- Laws on the table of the VMs that one spread names: the passes that fill it, that it says what the definition says, and how mates are found in it.
 use Prim.Native.Nat.{ℕ, zero, suc, _+_, _-_, _*_, _≤_, _<_}
-use mathlib.Core.Bool.{Bool, true, false, not, _&&_, _||_, and-false}
+use mathlib.Core.Bool.{Bool, true, false, _&&_, _||_, and-false, or-true, or-false}
 use mathlib.Core.List.{List, [], _∷_, map}
 use mathlib.Core.Logic.{by-cases}
 use mathlib.Core.Path.{_≡_, refl, sym, ap, _∙_}
@@ -207,12 +207,12 @@ blank-zeros n e = record { size = length-replicate {A = ℕ} n 0 ∙ e; each = �
 
 -- ---- finding a mate
 
-module _ (places dests : List ℕ) (w d r : ℕ) (e : r ≡ getD places w 0) where
-  pub counts-here : r ≡ d → true ≡ (eqb (getD places w 0) d || eqb (getD dests w 0) d)
-  counts-here h = simp (eq-eqb (getD places w 0) d (sym e ∙ h))
+module _ (places dests : List ℕ) (w d r : ℕ) (e : r ≡ getD dests w 0) where
+  pub counts-there : r ≡ d → true ≡ (eqb (getD places w 0) d || eqb (getD dests w 0) d)
+  counts-there h = simp (eq-eqb (getD dests w 0) d (sym e ∙ h), or-true)
 
-  pub counts-there : (x : ℕ) → x ≡ getD dests w 0 → (r ≡ d → ⊥) → eqb x d ≡ (eqb (getD places w 0) d || eqb (getD dests w 0) d)
-  counts-there x f n = rw f (simp (ne-eqb (getD places w 0) d (λ q. n (e ∙ q))))
+  pub counts-here : (x : ℕ) → x ≡ getD places w 0 → (r ≡ d → ⊥) → eqb x d ≡ (eqb (getD places w 0) d || eqb (getD dests w 0) d)
+  counts-here x f n = rw f (simp (ne-eqb (getD dests w 0) d (λ q. n (e ∙ q)), or-false))
 
 meets-suc : (room : Room) (places dests : List ℕ) (w n v d : ℕ) → d < 64 →
     meetsMate room (busyFrom places dests w (suc n)) v d ≡

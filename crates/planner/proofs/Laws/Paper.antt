@@ -3,26 +3,24 @@ use Prim.Native.Nat.{ℕ}
 use mathlib.Core.Bool.{true, false}
 use mathlib.Core.List.{List, [], _∷_}
 use mathlib.Core.Logic.{inl}
-use mathlib.Core.Path.{_≡_, refl}
+use mathlib.Core.Path.{_≡_, refl, ap}
+use native.Mathlib.Omega.{arith}
 use Rattle.records.specs.Base.{all, sumOf}
-use Rattle.records.specs.Bytes.{be16, be24, be32, bytes16, bytes32}
+use Rattle.records.specs.Bytes.{byteAt, be16, be24, be32, bytes16, bytes32}
 use Rattle.records.specs.Room.{nodeOf, vmOf, vmsOf, rows, nodeRow, vmRow, partAt, partsFrom, partsEnd, partsOf, vmsAt, nodesAt, groupsFrom, groupsEnd, constraintOf, listsEnd, roomOf, countsOk, vmOk, above, rises, listOk, has, disjoint, apart, constraintOk, filled, wellFormed, clusterCheck}
-use Rattle.records.specs.Plan.{Step, moveAt, stepAt, stepsFrom, stepsEnd, stepsOf, moveTotal, sized, shaped, planCheck, moveBytes, movesBytes, stepBytes, stepsBytes, headerBytes, planBytes}
+use Rattle.records.specs.Plan.{moveAt, stepAt, stepsFrom, stepsEnd, stepsOf, moveTotal, sized, shaped, planCheck, moveBytes, movesBytes, stepBytes, stepsBytes, headerBytes, planBytes}
 use Rattle.rules.specs.Moments.{currentOf, targetOf, after, within, ended, cell, countsOn, tallyAt, phaseOf, cellsFrom, firstMoment, begun, allRunning}
 use Rattle.rules.specs.Orders.{Order, done, next, begins, ends, later, SomeBegin, fits, spreads, some, mates, meetsMate}
 use Rattle.rules.specs.Rules.{keepsFrom, allowed, from, fitsAll, spreadOut, keeps, targetCheck, named, permitted, fitting, unmet, stepCheck, soundStep}
 use Rattle.rules.specs.Cost.{memoryOf, stepCost, costFrom, costOf}
-use Rattle.rules.specs.Verdict.{home, onCluster as checkCluster, onTarget as checkTarget, onPlan, onStep, stepsVerdict, planVerdict, verdictOf}
+use Rattle.rules.specs.Verdict.{home, onCluster, onTarget, onPlan, onStep, stepsVerdict, planVerdict, verdictOf, packed}
+use Rattle.rules.specs.Returned.{toldOutcome, toldNumber, toldStep, toldSteps, toldMoves, toldCost, SaysGood, SaysBlocked, SaysRefused}
 use Rattle.rules.specs.Promises.{afterAll, EveryRun}
-use Rattle.rules.specs.declared.faults.StepFault.{StepFault}
-use Rattle.rules.specs.declared.faults.Fault.{Fault}
 use Rattle.rules.specs.declared.faults.Verdict.{Verdict}
 use Rattle.rules.proofs.Laws.Verdicts.{exact-holds, only-holds}
 use Rattle.planner.specs.Picks.{moving, away, awayCount, canGo, joined, joinedAll, directStep, otherGoes, useful, orElse, pivotAmong, pivotFirst, pivotStep, nextStep, onward, pickedWithin, picked}
-use Rattle.planner.specs.Answer.{stepsFor, madeOf, outcome, onCluster, onTarget, answerOf}
+use Rattle.planner.specs.Answer.{stepsFor, madeOf, outcome, answerCluster, answerTarget, answerOf, bufferOf, packedAnswer}
 use Rattle.planner.specs.Promises.{Stuck}
-use Rattle.planner.specs.declared.answer.Made.{Made}
-use Rattle.planner.specs.declared.answer.Answer.the-variants.{Plan, Blocked}
 use Rattle.planner.proofs.Laws.Promised.{rest-stuck}
 
 -- ---- the records
@@ -68,26 +66,38 @@ planOne = 1 ∷ 0 ∷ 0 ∷ 0 ∷ 11 ∷ 0 ∷ 1 ∷ 0 ∷ 1 ∷ 0 ∷ 0 ∷ []
 
 -- ---- what is said of a case
 
--- the planner answers a plan with these counts and this cost, and the record it writes is this one, which the checker accepts at that
--- cost: every whole run of it obeys the rules and ends on the target
-pub record PlansAs (cluster plan : List ℕ) (made : Made) : Type 0 where
-  pub answer : answerOf cluster 2051 ≡ Plan made
-  pub written : planBytes (stepsFor (roomOf cluster)) ≡ plan
-  pub verdict : verdictOf cluster plan ≡ Verdict.Accepted (made .cost)
+-- the numbers that the two calls return (promise `is` of each), `build` lent a buffer of 2,051 bytes
+abbrev pub checkReturns : List ℕ → List ℕ → ℕ
+checkReturns cluster plan = packed (verdictOf cluster plan)
+
+abbrev pub buildReturns : List ℕ → ℕ
+buildReturns cluster = packedAnswer (answerOf cluster 2051)
+
+-- the checker accepts, at a cost: every whole run obeys the rules and ends on the target
+pub record AcceptedAt (cluster plan : List ℕ) (c : ℕ) : Type 0 where
+  pub outcome : SaysGood (checkReturns cluster plan)
+  pub cost : toldCost (checkReturns cluster plan) ≡ c
   pub runs : EveryRun (roomOf cluster) (currentOf (roomOf cluster)) (stepsOf plan)
 
--- it answers blocked, and the record it writes is this one, which the checker refuses with 19: at the placement reached nothing more can
--- be done
-pub record BlocksAs (cluster plan : List ℕ) (made : Made) : Type 0 where
-  pub answer : answerOf cluster 2051 ≡ Blocked made
+-- the planner answers a plan with these counts and this cost, and the record it writes is this one, which the checker accepts at that cost
+pub record PlansAs (cluster plan : List ℕ) (n m c : ℕ) : Type 0 where
+  pub outcome : SaysGood (buildReturns cluster)
+  pub steps : toldSteps (buildReturns cluster) ≡ n
+  pub moves : toldMoves (buildReturns cluster) ≡ m
+  pub cost : toldCost (buildReturns cluster) ≡ c
   pub written : planBytes (stepsFor (roomOf cluster)) ≡ plan
-  pub verdict : verdictOf cluster plan ≡ Verdict.Refused Fault.OffTarget
+  pub accepted : AcceptedAt cluster plan c
+
+-- it answers blocked, and the record it writes is this one, which the checker refuses with 19, step 0: at the placement reached nothing
+-- more can be done
+pub record BlocksAs (cluster plan : List ℕ) (n m c : ℕ) : Type 0 where
+  pub outcome : SaysBlocked (buildReturns cluster)
+  pub steps : toldSteps (buildReturns cluster) ≡ n
+  pub moves : toldMoves (buildReturns cluster) ≡ m
+  pub cost : toldCost (buildReturns cluster) ≡ c
+  pub written : planBytes (stepsFor (roomOf cluster)) ≡ plan
+  pub refused : SaysRefused (checkReturns cluster plan) 19 0
   pub stuck : Stuck (roomOf cluster) (afterAll (currentOf (roomOf cluster)) (stepsOf plan))
-
--- a plan made by other hands is accepted at a cost
-pub record Accepts (cluster plan : List ℕ) (cost : ℕ) : Type 0 where
-  pub verdict : verdictOf cluster plan ≡ Verdict.Accepted cost
-  pub runs : EveryRun (roomOf cluster) (currentOf (roomOf cluster)) (stepsOf plan)
 
 -- what an accepted plan's runs do
 accepted-runs : (cluster plan : List ℕ) (cost : ℕ) → verdictOf cluster plan ≡ Verdict.Accepted cost →
@@ -99,46 +109,50 @@ accepted-runs cluster plan cost e =
 
 pub record OnPaper : Type 0 where
   -- cluster A: planned; with zero steps; with both moves in one step, where in this order VM 0 does not fit on node 1 when it begins
-  pub a-planned : PlansAs (clusterA 40 0 4 4 4 []) planA (record { steps = 3; moves = 3; cost = 16 })
-  pub a-nothing : verdictOf (clusterA 40 0 4 4 4 []) planEmpty ≡ Verdict.Refused Fault.OffTarget
-  pub a-both : verdictOf (clusterA 40 0 4 4 4 []) planBoth ≡ Verdict.Refused (Fault.Step StepFault.Misfit 1)
+  pub a-planned : PlansAs (clusterA 40 0 4 4 4 []) planA 3 3 16
+  -- a planner that leaves the buffer as it was, here one that starts with 0, is another one
+  pub a-touched : (before : List ℕ) → byteAt before 0 ≡ 0 →
+      bufferOf (answerOf (clusterA 40 0 4 4 4 []) 2051) (planBytes (stepsFor (roomOf (clusterA 40 0 4 4 4 [])))) before ≡ before → ⊥
+  pub a-nothing : SaysRefused (checkReturns (clusterA 40 0 4 4 4 []) planEmpty) 19 0
+  pub a-both : SaysRefused (checkReturns (clusterA 40 0 4 4 4 []) planBoth) 17 1
   pub a-order : Order (firstMoment (roomOf (clusterA 40 0 4 4 4 [])) (currentOf (roomOf (clusterA 40 0 4 4 4 []))) (moving 0 1 ∷ moving 1 0 ∷ [])) (cell 0 0 (ended 1) ∷ cell 1 1 (ended 0) ∷ [])
   pub a-fails : SomeBegin (λ cs v d. (fits (roomOf (clusterA 40 0 4 4 4 [])) cs v d ≡ false) × (v ≡ 0) × (d ≡ 1)) a-order
   -- all memories 5
-  pub five-planned : PlansAs (clusterA 40 0 5 5 5 []) planBoth (record { steps = 1; moves = 2; cost = 5 })
+  pub five-planned : PlansAs (clusterA 40 0 5 5 5 []) planBoth 1 2 5
   -- node 2 of memory 2; VM 0 banned from node 2
-  pub two-planned : PlansAs (clusterA 40 0 4 4 2 []) planVia (record { steps = 3; moves = 3; cost = 14 })
-  pub banned-planned : PlansAs (clusterA 48 1 4 4 4 banned) planVia (record { steps = 3; moves = 3; cost = 14 })
+  pub two-planned : PlansAs (clusterA 40 0 4 4 2 []) planVia 3 3 14
+  pub banned-planned : PlansAs (clusterA 48 1 4 4 4 banned) planVia 3 3 14
   -- node 2 of memory 1
-  pub one-blocked : BlocksAs (clusterA 40 0 4 4 1 []) planEmpty (record { steps = 0; moves = 0; cost = 0 })
+  pub one-blocked : BlocksAs (clusterA 40 0 4 4 1 []) planEmpty 0 0 0
   -- all memories 9 and a spread of both VMs: both in one step, where in this order VM 0 meets VM 1 on node 1 when it begins; planned as A
-  pub spread-both : verdictOf (clusterA 47 1 9 9 9 mated) planBoth ≡ Verdict.Refused (Fault.Step StepFault.Mate 1)
+  pub spread-both : SaysRefused (checkReturns (clusterA 47 1 9 9 9 mated) planBoth) 18 1
   pub spread-order : Order (firstMoment (roomOf (clusterA 47 1 9 9 9 mated)) (currentOf (roomOf (clusterA 47 1 9 9 9 mated))) (moving 0 1 ∷ moving 1 0 ∷ [])) (cell 0 0 (ended 1) ∷ cell 1 1 (ended 0) ∷ [])
   pub spread-fails : SomeBegin (λ cs v d. (meetsMate (roomOf (clusterA 47 1 9 9 9 mated)) cs v d ≡ true) × (v ≡ 0) × (d ≡ 1)) spread-order
-  pub spread-planned : PlansAs (clusterA 47 1 9 9 9 mated) planA (record { steps = 3; moves = 3; cost = 16 })
+  pub spread-planned : PlansAs (clusterA 47 1 9 9 9 mated) planA 3 3 16
   -- no VM
-  pub none-planned : PlansAs clusterNone planEmpty (record { steps = 0; moves = 0; cost = 0 })
+  pub none-planned : PlansAs clusterNone planEmpty 0 0 0
   -- blocked after one step, VM 0 to node 0; yet there is a plan
-  pub last-blocked : BlocksAs clusterLast planOne (record { steps = 1; moves = 1; cost = 2 })
-  pub last-accepted : Accepts clusterLast planLast 12
+  pub last-blocked : BlocksAs clusterLast planOne 1 1 2
+  pub last-accepted : AcceptedAt clusterLast planLast 12
 
 pub on-paper : OnPaper
-unfolding all sumOf be16 be24 be32 nodeOf vmOf vmsOf rows nodeRow vmRow partAt partsFrom partsEnd partsOf vmsAt nodesAt groupsFrom groupsEnd constraintOf listsEnd roomOf countsOk vmOk above rises listOk has disjoint apart constraintOk filled wellFormed clusterCheck moveAt stepAt stepsFrom stepsEnd stepsOf moveTotal sized shaped planCheck currentOf targetOf after within countsOn tallyAt phaseOf cellsFrom firstMoment begun allRunning spreads some mates meetsMate keepsFrom allowed from fitsAll spreadOut keeps targetCheck named permitted fitting unmet stepCheck memoryOf stepCost costFrom costOf home checkCluster checkTarget onPlan onStep stepsVerdict planVerdict verdictOf clusterA planA planEmpty planBoth planVia clusterLast planLast clusterNone banned mated awayCount away canGo joined joinedAll directStep otherGoes useful orElse pivotAmong pivotFirst pivotStep nextStep onward pickedWithin picked stepsFor madeOf outcome onCluster onTarget answerOf soundStep bytes16 bytes32 moveBytes movesBytes stepBytes stepsBytes headerBytes planBytes planOne afterAll fits
+unfolding all sumOf be16 be24 be32 nodeOf vmOf vmsOf rows nodeRow vmRow partAt partsFrom partsEnd partsOf vmsAt nodesAt groupsFrom groupsEnd constraintOf listsEnd roomOf countsOk vmOk above rises listOk has disjoint apart constraintOk filled wellFormed clusterCheck moveAt stepAt stepsFrom stepsEnd stepsOf moveTotal sized shaped planCheck currentOf targetOf after within countsOn tallyAt phaseOf cellsFrom firstMoment begun allRunning spreads some mates meetsMate keepsFrom allowed from fitsAll spreadOut keeps targetCheck named permitted fitting unmet stepCheck memoryOf stepCost costFrom costOf home onCluster onTarget onPlan onStep stepsVerdict planVerdict verdictOf clusterA planA planEmpty planBoth planVia clusterLast planLast clusterNone banned mated awayCount away canGo joined joinedAll directStep otherGoes useful orElse pivotAmong pivotFirst pivotStep nextStep onward pickedWithin picked stepsFor madeOf outcome answerCluster answerTarget answerOf bufferOf soundStep bytes16 bytes32 moveBytes movesBytes stepBytes stepsBytes headerBytes planBytes planOne afterAll fits toldOutcome toldNumber toldStep toldSteps toldMoves toldCost
 on-paper = record {
-  a-planned = record { answer = refl; written = refl; verdict = refl; runs = accepted-runs (clusterA 40 0 4 4 4 []) planA 16 refl };
-  a-nothing = refl;
-  a-both = refl;
+  a-planned = record { outcome = refl; steps = refl; moves = refl; cost = refl; written = refl; accepted = record { outcome = refl; cost = refl; runs = accepted-runs (clusterA 40 0 4 4 4 []) planA 16 refl } };
+  a-touched = λ before z e. let one : 1 ≡ byteAt before 0 = ap (λ (l : List ℕ). byteAt l 0) e in omega arith;
+  a-nothing = (refl, refl, refl);
+  a-both = (refl, refl, refl);
   a-order = next begins (next (later begins) (next ends (next (later ends) done)));
   a-fails = inl (refl, refl, refl);
-  five-planned = record { answer = refl; written = refl; verdict = refl; runs = accepted-runs (clusterA 40 0 5 5 5 []) planBoth 5 refl };
-  two-planned = record { answer = refl; written = refl; verdict = refl; runs = accepted-runs (clusterA 40 0 4 4 2 []) planVia 14 refl };
-  banned-planned = record { answer = refl; written = refl; verdict = refl; runs = accepted-runs (clusterA 48 1 4 4 4 banned) planVia 14 refl };
-  one-blocked = record { answer = refl; written = refl; verdict = refl; stuck = rest-stuck (roomOf (clusterA 40 0 4 4 1 [])) (currentOf (roomOf (clusterA 40 0 4 4 1 []))) refl refl };
-  spread-both = refl;
+  five-planned = record { outcome = refl; steps = refl; moves = refl; cost = refl; written = refl; accepted = record { outcome = refl; cost = refl; runs = accepted-runs (clusterA 40 0 5 5 5 []) planBoth 5 refl } };
+  two-planned = record { outcome = refl; steps = refl; moves = refl; cost = refl; written = refl; accepted = record { outcome = refl; cost = refl; runs = accepted-runs (clusterA 40 0 4 4 2 []) planVia 14 refl } };
+  banned-planned = record { outcome = refl; steps = refl; moves = refl; cost = refl; written = refl; accepted = record { outcome = refl; cost = refl; runs = accepted-runs (clusterA 48 1 4 4 4 banned) planVia 14 refl } };
+  one-blocked = record { outcome = refl; steps = refl; moves = refl; cost = refl; written = refl; refused = (refl, refl, refl); stuck = rest-stuck (roomOf (clusterA 40 0 4 4 1 [])) (currentOf (roomOf (clusterA 40 0 4 4 1 []))) refl refl };
+  spread-both = (refl, refl, refl);
   spread-order = next begins (next (later begins) (next ends (next (later ends) done)));
   spread-fails = inl (refl, refl, refl);
-  spread-planned = record { answer = refl; written = refl; verdict = refl; runs = accepted-runs (clusterA 47 1 9 9 9 mated) planA 16 refl };
-  none-planned = record { answer = refl; written = refl; verdict = refl; runs = accepted-runs clusterNone planEmpty 0 refl };
-  last-blocked = record { answer = refl; written = refl; verdict = refl; stuck = rest-stuck (roomOf clusterLast) (afterAll (currentOf (roomOf clusterLast)) (stepsOf planOne)) refl refl };
-  last-accepted = record { verdict = refl; runs = accepted-runs clusterLast planLast 12 refl };
+  spread-planned = record { outcome = refl; steps = refl; moves = refl; cost = refl; written = refl; accepted = record { outcome = refl; cost = refl; runs = accepted-runs (clusterA 47 1 9 9 9 mated) planA 16 refl } };
+  none-planned = record { outcome = refl; steps = refl; moves = refl; cost = refl; written = refl; accepted = record { outcome = refl; cost = refl; runs = accepted-runs clusterNone planEmpty 0 refl } };
+  last-blocked = record { outcome = refl; steps = refl; moves = refl; cost = refl; written = refl; refused = (refl, refl, refl); stuck = rest-stuck (roomOf clusterLast) (afterAll (currentOf (roomOf clusterLast)) (stepsOf planOne)) refl refl };
+  last-accepted = record { outcome = refl; cost = refl; runs = accepted-runs clusterLast planLast 12 refl };
 }

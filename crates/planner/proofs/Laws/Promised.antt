@@ -1,81 +1,60 @@
 -- The promises of `build` as theorems about `answerOf`: each field of `Built`.
-use Prim.Native.Nat.{ℕ, zero, suc, _+_, _≤_, _<_, _^_}
-use mathlib.Core.Bool.{Bool, true, false, not, _&&_, false≢true}
+use Prim.Native.Nat.{ℕ, _+_, _≤_}
+use mathlib.Core.Bool.{Bool, true, false, not, false≢true}
 use mathlib.Core.List.{List, [], _∷_, _++_}
-use mathlib.Core.Logic.{_↔_, by-cases}
+use mathlib.Core.Logic.{_↔_, _⊎_, inl, inr}
 use mathlib.Core.Path.{_≡_, refl, sym, ap, _∙_}
-use native.Mathlib.Decide.{ℕ-discrete}
 use native.Mathlib.Omega.{arith}
 use lib.ListN.{length, take, drop}
 use lib.Seq.{take-at}
 use lib.Dec.{ltb, eqb}
-use borrow.Author.Tests.{le-ltb, not-true, ltb-false, not-false}
-use Rattle.records.specs.Base.{pick, all}
-use Rattle.records.specs.Bytes.{be32, bytes16, bytes32}
+use borrow.Author.Tests.{le-ltb, not-true, ltb-false, not-false, ne-eqb, eqb-false}
+use Rattle.records.specs.Base.{pick}
+use Rattle.records.specs.Bytes.{be32, bytes16, bytes32, AreBytes}
 use Rattle.records.specs.Room.{Room, roomOf, clusterCheck}
-use Rattle.records.specs.Plan.{Step, moveTotal, stepsOf, shaped, stepsBytes, headerBytes, planBytes}
+use Rattle.records.specs.Plan.{Step, moveTotal, stepsOf, shaped, planCheck, stepsBytes, headerBytes, planBytes}
 use Rattle.records.specs.declared.faults.ClusterCheck.{ClusterCheck}
-use Rattle.records.proofs.Laws.Bools.{and-left, and-right}
 use Rattle.records.proofs.Laws.Cluster.{vms-most, vms-count}
-use Rattle.records.proofs.Laws.RoundTrip.{plan-length, plan-size, steps-of-plan, be32-back}
+use Rattle.records.proofs.Laws.RoundTrip.{plan-length, plan-size, plan-whole, steps-of-plan, be32-back}
 use Rattle.rules.specs.Moments.{Placement, placeOf, currentOf, targetOf, after}
 use Rattle.rules.specs.Orders.{Run}
-use Rattle.rules.specs.Rules.{from, targetCheck}
+use Rattle.rules.specs.Rules.{targetCheck}
 use Rattle.rules.specs.Cost.{costOf}
-use Rattle.rules.specs.Verdict.{home, verdictOf}
-use Rattle.rules.specs.Promises.{afterAll, soundAll}
+use Rattle.rules.specs.Verdict.{home, verdictOf, packed}
+use Rattle.rules.specs.Returned.{SaysGood, SaysBlocked}
+use Rattle.rules.specs.Promises.{afterAll, namedAll, soundAll, Shaped, EveryRun, EndsAway, Checked}
 use Rattle.rules.specs.declared.faults.TargetCheck.{TargetCheck}
+use Rattle.rules.specs.declared.faults.Fault.{Fault}
 use Rattle.rules.specs.declared.faults.Verdict.{Verdict}
-use Rattle.rules.proofs.Laws.Planned.{planned-accepted, planned-away}
+use Rattle.rules.proofs.Laws.Contract.{contract}
+use Rattle.rules.proofs.Laws.Costs.{cost-low}
+use Rattle.rules.proofs.Laws.Returned.{says-accepted, says-refused}
 use Rattle.rules.proofs.Laws.Runs.{sound-all-named, run-ends, run-obeys, sound-orders, stays-within}
-use Rattle.rules.proofs.Laws.Verdicts.{current-length}
-use Rattle.planner.specs.Picks.{away, useful, directStep, pivotStep, orElse, nextStep, Picks, vmsIn}
-use Rattle.planner.specs.Answer.{stepsFor, madeOf, outcome, onCluster, onTarget, answerOf, bufferOf, frontOf, packedAnswer}
-use Rattle.planner.specs.Promises.{Answers, Stuck, Written, Planned, Halted, Taken, Built}
+use Rattle.rules.proofs.Laws.Spreads.{stays-apart}
+use Rattle.rules.proofs.Laws.Verdicts.{current-length, off-some, off-home}
+use Rattle.planner.specs.Picks.{away, directStep, pivotStep, orElse, nextStep, Picks}
+use Rattle.planner.specs.Answer.{stepsFor, madeOf, outcome, answerCluster, answerTarget, answerOf, bufferOf, frontOf, packedAnswer}
+use Rattle.planner.specs.Promises.{Answers, toldMade, TellsAnswer, Stuck, Written, Planned, Halted, Taken, Built}
+use Rattle.planner.specs.Inner.{Packs}
 use Rattle.planner.specs.declared.answer.Made.{Made}
 use Rattle.planner.specs.declared.answer.BuildFault.{BuildFault}
 use Rattle.planner.specs.declared.answer.Answer.{Answer}
 use Rattle.planner.specs.declared.answer.Answer.the-variants.{Plan, Blocked, Refused}
 use Rattle.planner.proofs.Laws.Budget.{not-empty, budget, budget-none, budget-most, budget-511, picks-steps, picks-sound, picks-ends, picks-moves, picks-count, picks-shaped}
 use Rattle.planner.proofs.Laws.Direct.{direct-none}
-use Rattle.planner.proofs.Laws.Packing.{plan-packs, blocked-packs}
+use Rattle.planner.proofs.Laws.Packing.{tells-answer, says-plan, says-blocked, blocked-says}
 use Rattle.planner.proofs.Laws.Pivots.{no-pivot}
-
--- ---- somebody out of place
-
-away-among : (room : Room) (places : Placement) (k n : ℕ) → all (λ v. eqb (placeOf places v) (placeOf (targetOf room) v)) (from k n) ≡ false →
-    (v : ℕ) × (v < k + n) × (away room places v ≡ true)
-unfolding all from away
-away-among room places k zero e = absurd (false≢true (sym e))
-away-among room places k (suc n) e = go (eqb (placeOf places k) (placeOf (targetOf room) k)) refl e (away-among room places (suc k) n)
-  where
-    go : (b : Bool) → eqb (placeOf places k) (placeOf (targetOf room) k) ≡ b →
-        (b && all (λ v. eqb (placeOf places v) (placeOf (targetOf room) v)) (from (suc k) n)) ≡ false →
-        (all (λ v. eqb (placeOf places v) (placeOf (targetOf room) v)) (from (suc k) n) ≡ false →
-        (v : ℕ) × (v < suc k + n) × (not (eqb (placeOf places v) (placeOf (targetOf room) v)) ≡ true)) →
-        (v : ℕ) × (v < k + suc n) × (not (eqb (placeOf places v) (placeOf (targetOf room) v)) ≡ true)
-    go true q f more = let r = more f in (r .0, let h = r .1 in omega arith, r .2)
-    go false q f more = (k, omega arith, ap not q)
-
--- at home everybody is on his target
-home-each : (room : Room) (places : Placement) (k n v : ℕ) → all (λ u. eqb (placeOf places u) (placeOf (targetOf room) u)) (from k n) ≡ true → k ≤ v → v < k + n →
-    away room places v ≡ false
-unfolding all from away
-home-each room places k zero v e h l = absurd (omega arith)
-home-each room places k (suc n) v e h l =
-    by-cases (ℕ-discrete k v) (λ q. ap not (rw q at (and-left (eqb (placeOf places k) (placeOf (targetOf room) k)) _ e)))
-    (λ q. home-each room places (suc k) n v (and-right (eqb (placeOf places k) (placeOf (targetOf room) k)) _ e) (omega arith) (omega arith))
 
 -- ---- where the planner rests
 
 -- where there is no next step no direct move is sound and no pivot is useful
 pub rest-stuck : (room : Room) (places : Placement) → nextStep room places ≡ [] → home room places ≡ false → Stuck room places
-unfolding nextStep orElse home
+unfolding nextStep orElse away
 rest-stuck room places e h =
     let b = both (directStep room places) (pivotStep room places) e in
-    let w = away-among room places 0 (length (room .vms)) h in
+    let w = off-some room places h in
     record {
-      lost = (w .0, let l = w .1 in omega arith, w .2);
+      lost = (w .0, w .1, ap not (ne-eqb (placeOf places (w .0)) (placeOf (targetOf room) (w .0)) (w .2)));
       no-direct = direct-none room places (b .0);
       no-pivot = no-pivot room places (b .1);
     }
@@ -85,14 +64,10 @@ rest-stuck room places e h =
     both (move ∷ moves) two q = absurd (not-empty move moves q)
 
 stuck-away : (room : Room) (places : Placement) → Stuck room places → home room places ≡ false
-unfolding home
-stuck-away room places s = go (all (λ v. eqb (placeOf places v) (placeOf (targetOf room) v)) (vmsIn room)) refl
-  where
-    go : (b : Bool) → all (λ v. eqb (placeOf places v) (placeOf (targetOf room) v)) (vmsIn room) ≡ b → b ≡ false
-    go true q =
-        let l = s .lost .1 in
-        absurd (false≢true (sym (home-each room places 0 (length (room .vms)) (s .lost .0) q (omega arith) (omega arith)) ∙ s .lost .2))
-    go false q = refl
+unfolding away
+stuck-away room places s =
+    let v = s .lost .0 in
+    off-home room places v (s .lost .1) (eqb-false (placeOf places v) (placeOf (targetOf room) v) (not-true (eqb (placeOf places v) (placeOf (targetOf room) v)) (s .lost .2)))
 
 -- ---- the record at the front of a buffer
 
@@ -130,7 +105,7 @@ madeIn (Refused fault) = noMade
 
 -- an answer that is no refusal has none of the faults 1 to 10
 taken-of : (cluster before : List ℕ) → refuses (answerOf cluster (length before)) ≡ false → Taken cluster before
-unfolding answerOf onCluster onTarget
+unfolding answerOf answerCluster answerTarget
 taken-of cluster before e = on-cluster (clusterCheck cluster) refl e
   where
     on-size : (b : Bool) → ltb (length before) 2051 ≡ b → clusterCheck cluster ≡ ClusterCheck.Whole → targetCheck (roomOf cluster) ≡ TargetCheck.Good →
@@ -139,12 +114,12 @@ taken-of cluster before e = on-cluster (clusterCheck cluster) refl e
     on-size false q c t f = record { cluster-whole = c; target-good = t; buffer-long = ltb-false (length before) 2051 q }
 
     on-target : (t : TargetCheck) → targetCheck (roomOf cluster) ≡ t → clusterCheck cluster ≡ ClusterCheck.Whole →
-        refuses (onTarget t (pick (ltb (length before) 2051) (Refused BuildFault.Buffer) (outcome (roomOf cluster) (stepsFor (roomOf cluster))))) ≡ false → Taken cluster before
+        refuses (answerTarget t (pick (ltb (length before) 2051) (Refused BuildFault.Buffer) (outcome (roomOf cluster) (stepsFor (roomOf cluster))))) ≡ false → Taken cluster before
     on-target TargetCheck.Good q c f = on-size (ltb (length before) 2051) refl c q f
     on-target (TargetCheck.Bad fault) q c f = absurd (false≢true (sym f))
 
     on-cluster : (c : ClusterCheck) → clusterCheck cluster ≡ c →
-        refuses (onCluster c (onTarget (targetCheck (roomOf cluster)) (pick (ltb (length before) 2051) (Refused BuildFault.Buffer) (outcome (roomOf cluster) (stepsFor (roomOf cluster)))))) ≡ false →
+        refuses (answerCluster c (answerTarget (targetCheck (roomOf cluster)) (pick (ltb (length before) 2051) (Refused BuildFault.Buffer) (outcome (roomOf cluster) (stepsFor (roomOf cluster)))))) ≡ false →
         Taken cluster before
     on-cluster ClusterCheck.Whole q f = on-target (targetCheck (roomOf cluster)) refl q f
     on-cluster (ClusterCheck.Damaged fault) q f = absurd (false≢true (sym f))
@@ -153,7 +128,7 @@ taken-of cluster before e = on-cluster (clusterCheck cluster) refl e
 
 module _ (cluster before : List ℕ) (t : Taken cluster before) where
   pub taken-answer : answerOf cluster (length before) ≡ outcome (roomOf cluster) (stepsFor (roomOf cluster))
-  unfolding answerOf onCluster onTarget
+  unfolding answerOf answerCluster answerTarget
   taken-answer = rw (t .cluster-whole, t .target-good, le-ltb (length before) 2051 (t .buffer-long))
 
   few : length (roomOf cluster .vms) ≤ 256
@@ -185,32 +160,29 @@ module _ (cluster before : List ℕ) (t : Taken cluster before) where
       run-ends (sound-all-named (roomOf cluster) (currentOf (roomOf cluster)) (stepsFor (roomOf cluster)) steps-sound) (current-length (roomOf cluster)) run
 
   -- what is written
-  module _ (cost-low : costOf (roomOf cluster) (stepsFor (roomOf cluster)) < 2 ^ 43) where
-    written-for : (plan : List ℕ) → plan ≡ planBytes (stepsFor (roomOf cluster)) → Written cluster plan (madeOf (roomOf cluster) (stepsFor (roomOf cluster)))
-    unfolding madeOf
-    written-for plan p =
-        let e : stepsOf plan ≡ stepsFor (roomOf cluster) = ap stepsOf p ∙ steps-of-plan (stepsFor (roomOf cluster)) steps-shaped in
-        let m = moves-few in let n = steps-few in let k = moves-511 in
-        record {
-          picks = rw e picks-are;
-          named = rw e (sound-all-named (roomOf cluster) (currentOf (roomOf cluster)) (stepsFor (roomOf cluster)) steps-sound);
-          obeys = rw e (λ last run. run-obeys steps-sound (current-length (roomOf cluster)) run);
-          reaches = rw e (λ last run. ends-there run);
-          auditor = rw e (stays-within (roomOf cluster) (currentOf (roomOf cluster)) (stepsFor (roomOf cluster)) steps-sound (current-length (roomOf cluster)));
-          none = λ z. e ∙ empty (stepsFor (roomOf cluster)) (let b = budget-none (roomOf cluster) (currentOf (roomOf cluster)) z in omega arith);
-          short = λ z. rw e (let b = budget-most (roomOf cluster) (currentOf (roomOf cluster)) z in omega arith);
-          small = rw p (let l = plan-length (stepsFor (roomOf cluster)) in omega arith);
-          steps = rw e;
-          moves = rw e;
-          cost = rw e;
-          steps-below = omega arith;
-          moves-below = omega arith;
-          cost-below = cost-low;
-        }
-      where
-        empty : (l : List Step) → length l ≤ 0 → l ≡ []
-        empty [] h = refl
-        empty (x ∷ xs) h = absurd (omega arith)
+  written-for : (plan : List ℕ) → plan ≡ planBytes (stepsFor (roomOf cluster)) → Written cluster plan (madeOf (roomOf cluster) (stepsFor (roomOf cluster)))
+  unfolding madeOf
+  written-for plan p =
+      let e : stepsOf plan ≡ stepsFor (roomOf cluster) = ap stepsOf p ∙ steps-of-plan (stepsFor (roomOf cluster)) steps-shaped in
+      let m = moves-few in let n = steps-few in let k = moves-511 in
+      record {
+        picks = rw e picks-are;
+        named = rw e (sound-all-named (roomOf cluster) (currentOf (roomOf cluster)) (stepsFor (roomOf cluster)) steps-sound);
+        obeys = rw e (λ last run. run-obeys steps-sound (current-length (roomOf cluster)) run);
+        reaches = rw e (λ last run. ends-there run);
+        auditor = rw e (stays-within (roomOf cluster) (currentOf (roomOf cluster)) (stepsFor (roomOf cluster)) steps-sound (current-length (roomOf cluster)));
+        apart = rw e (stays-apart (roomOf cluster) (currentOf (roomOf cluster)) (stepsFor (roomOf cluster)) steps-sound (current-length (roomOf cluster)));
+        none = λ z. e ∙ empty (stepsFor (roomOf cluster)) (let b = budget-none (roomOf cluster) (currentOf (roomOf cluster)) z in omega arith);
+        short = λ z. rw e (let b = budget-most (roomOf cluster) (currentOf (roomOf cluster)) z in omega arith);
+        small = rw p (let l = plan-length (stepsFor (roomOf cluster)) in omega arith);
+        steps = rw e;
+        moves = rw e;
+        cost = rw e;
+      }
+    where
+      empty : (l : List Step) → length l ≤ 0 → l ≡ []
+      empty [] h = refl
+      empty (x ∷ xs) h = absurd (omega arith)
 
   -- its answer: which of the two, and with which counts
   blocks-is : blocks (answerOf cluster (length before)) ≡ not (home (roomOf cluster) (afterAll (currentOf (roomOf cluster)) (stepsFor (roomOf cluster))))
@@ -240,42 +212,66 @@ module _ (cluster before : List ℕ) (t : Taken cluster before) where
   rests : nextStep (roomOf cluster) (afterAll (currentOf (roomOf cluster)) (stepsFor (roomOf cluster))) ≡ []
   rests = picks-ends (roomOf cluster) (currentOf (roomOf cluster)) (stepsFor (roomOf cluster)) picks-are
 
-  module _ (made : Made) (plan : List ℕ) (p : plan ≡ planBytes (stepsFor (roomOf cluster))) (low : made .cost < 2 ^ 43) where
+  module _ (bytes : AreBytes cluster) (made : Made) (plan : List ℕ) (p : plan ≡ planBytes (stepsFor (roomOf cluster))) where
     plan-steps : stepsOf plan ≡ stepsFor (roomOf cluster)
     plan-steps = ap stepsOf p ∙ steps-of-plan (stepsFor (roomOf cluster)) steps-shaped
 
     written-made : madeOf (roomOf cluster) (stepsFor (roomOf cluster)) ≡ made → Written cluster plan made
-    unfolding madeOf
-    written-made m = rw (← m) (written-for (cost-under m) plan p)
-      where
-        cost-under : madeOf (roomOf cluster) (stepsFor (roomOf cluster)) ≡ made → costOf (roomOf cluster) (stepsFor (roomOf cluster)) < 2 ^ 43
-        cost-under m = let c = ap (λ (x : Made). x .cost) m in omega arith
+    written-made m = rw (← m) (written-for plan p)
+
+    -- what the checker says of it, by its contract
+    whole : Shaped cluster plan
+    whole = record {
+      cluster-whole = t .cluster-whole;
+      target-good = t .target-good;
+      plan-whole = ap planCheck p ∙ plan-whole (stepsFor (roomOf cluster)) steps-shaped;
+    }
+
+    checks : Checked cluster plan (packed (verdictOf cluster plan))
+    checks = contract cluster plan bytes (packed (verdictOf cluster plan)) refl
+
+    accepted-is : EveryRun (roomOf cluster) (currentOf (roomOf cluster)) (stepsOf plan) → verdictOf cluster plan ≡ Verdict.Accepted (costOf (roomOf cluster) (stepsOf plan))
+    accepted-is runs =
+        let names : namedAll (roomOf cluster) (currentOf (roomOf cluster)) (stepsOf plan) ≡ true = written-for plan p .named in
+        let good = checks .exact whole names .1 runs in
+        says-accepted (packed (verdictOf cluster plan)) (verdictOf cluster plan) (checks .told) good ∙ ap Verdict.Accepted (checks .cost good)
+
+    refused-is : EndsAway (roomOf cluster) (currentOf (roomOf cluster)) (stepsOf plan) → verdictOf cluster plan ≡ Verdict.Refused Fault.OffTarget
+    refused-is ends = says-refused (packed (verdictOf cluster plan)) (verdictOf cluster plan) Fault.OffTarget (checks .told) .0 (checks .off-target .1 (whole, ends))
 
     planned-is : answerOf cluster (length before) ≡ Plan made → Planned cluster plan made
-    unfolding madeOf
     planned-is e =
-        let m : madeOf (roomOf cluster) (stepsFor (roomOf cluster)) ≡ made = sym made-is ∙ ap madeIn e in
+        let w = written-made (sym made-is ∙ ap madeIn e) in
         let h : home (roomOf cluster) (afterAll (currentOf (roomOf cluster)) (stepsFor (roomOf cluster))) ≡ true =
         not-false (home (roomOf cluster) (afterAll (currentOf (roomOf cluster)) (stepsFor (roomOf cluster)))) (sym blocks-is ∙ ap blocks e) in
-        record {
-          written = written-made m;
-          runs = rw plan-steps (record {
-            obeys = λ last run. run-obeys steps-sound (current-length (roomOf cluster)) run;
-            ends = λ last run. ap (home (roomOf cluster)) (ends-there run) ∙ h;
-          });
-          accepted =
-              ap (verdictOf cluster) p ∙ planned-accepted cluster (stepsFor (roomOf cluster)) (t .cluster-whole) (t .target-good) steps-shaped steps-sound h ∙
-              ap (λ (x : Made). Verdict.Accepted (x .cost)) m;
-        }
+        let runs : EveryRun (roomOf cluster) (currentOf (roomOf cluster)) (stepsOf plan) =
+        rw plan-steps (record {
+          obeys = λ last run. run-obeys steps-sound (current-length (roomOf cluster)) run;
+          ends = λ last run. ap (home (roomOf cluster)) (ends-there run) ∙ h;
+        }) in
+        record { written = w; runs = runs; accepted = accepted-is runs ∙ ap Verdict.Accepted (sym (w .cost)) }
 
     halted-is : answerOf cluster (length before) ≡ Blocked made → Halted cluster plan made
     halted-is e =
+        let w = written-made (sym made-is ∙ ap madeIn e) in
         let h : home (roomOf cluster) (afterAll (currentOf (roomOf cluster)) (stepsFor (roomOf cluster))) ≡ false =
         not-true (home (roomOf cluster) (afterAll (currentOf (roomOf cluster)) (stepsFor (roomOf cluster)))) (sym blocks-is ∙ ap blocks e) in
         record {
-          written = written-made (sym made-is ∙ ap madeIn e);
-          refused = ap (verdictOf cluster) p ∙ planned-away cluster (stepsFor (roomOf cluster)) (t .cluster-whole) (t .target-good) steps-shaped steps-sound h;
+          written = w;
+          refused = refused-is (rw plan-steps (record {
+            sound = steps-sound;
+            obeys = λ last run. run-obeys steps-sound (current-length (roomOf cluster)) run;
+            away = λ last run. off-some (roomOf cluster) last (ap (home (roomOf cluster)) (ends-there run) ∙ h);
+          }));
         }
+
+  -- the counts and the cost fit the number returned
+  made-packs : AreBytes cluster → Packs (Plan (madeOf (roomOf cluster) (stepsFor (roomOf cluster))))
+  unfolding madeOf
+  made-packs bytes =
+      let m = moves-511 in let n = steps-few in
+      let e = steps-of-plan (stepsFor (roomOf cluster)) steps-shaped in
+      (omega arith, omega arith, rw e at (cost-low cluster (planBytes (stepsFor (roomOf cluster))) bytes (plan-whole (stepsFor (roomOf cluster)) steps-shaped)))
 
   -- blocked means stuck
   blocked-is : (plan : List ℕ) → plan ≡ planBytes (stepsFor (roomOf cluster)) →
@@ -288,35 +284,69 @@ module _ (cluster before : List ℕ) (t : Taken cluster before) where
         (λ s. (madeOf (roomOf cluster) (stepsFor (roomOf cluster)), taken-answer ∙ rw (stuck-away (roomOf cluster) (afterAll (currentOf (roomOf cluster)) (stepsFor (roomOf cluster))) s))),
       )
 
+-- ---- the number returned
+
+-- the answer to a record of bytes packs
+packs : (cluster before : List ℕ) → AreBytes cluster → (a : Answer) → a ≡ answerOf cluster (length before) → Packs a
+packs cluster before bytes (Plan made) e =
+    let t = taken-of cluster before (ap refuses (sym e)) in
+    let m : madeOf (roomOf cluster) (stepsFor (roomOf cluster)) ≡ made = sym (made-is cluster before t) ∙ ap madeIn (sym e) in
+    rw m at (made-packs cluster before t bytes)
+packs cluster before bytes (Blocked made) e =
+    let t = taken-of cluster before (ap refuses (sym e)) in
+    let m : madeOf (roomOf cluster) (stepsFor (roomOf cluster)) ≡ made = sym (made-is cluster before t) ∙ ap madeIn (sym e) in
+    rw m at (made-packs cluster before t bytes)
+packs cluster before bytes (Refused fault) e = tt
+
+pub answer-packs : (cluster before after : List ℕ) (a : Answer) → Answers cluster (answerOf cluster (length before)) before after a → AreBytes cluster → Packs a
+answer-packs cluster before after a g bytes = packs cluster before bytes a (g .is)
+
 -- ---- all promises
 
-pub built : (cluster before after : List ℕ) (a : Answer) (r : ℕ) → Answers cluster (answerOf cluster (length before)) before after a → r ≡ packedAnswer a →
-    Built cluster before after r
-unfolding outcome
-built cluster before after a r g e = record {
-  is = e ∙ ap packedAnswer (g .is);
-  buffer = g .buffer;
-  planned = λ made q.
-      let n : refuses (answerOf cluster (length before)) ≡ false = ap refuses q in
-      let t = taken-of cluster before n in
-      planned-is cluster before t made (frontOf after) (front-for cluster before t (answerOf cluster (length before)) after n (g .buffer)) (low-plan made (g .is ∙ q)) q;
-  halted = λ made q.
-      let n : refuses (answerOf cluster (length before)) ≡ false = ap refuses q in
-      let t = taken-of cluster before n in
-      halted-is cluster before t made (frontOf after) (front-for cluster before t (answerOf cluster (length before)) after n (g .buffer)) (low-blocked made (g .is ∙ q)) q;
-  blocked = λ t. blocked-is cluster before t (frontOf after) (front-for cluster before t (answerOf cluster (length before)) after (not-refused t) (g .buffer));
-  sound = sound-orders (roomOf cluster);
-}
-  where
-    low-plan : (made : Made) → a ≡ Plan made → made .cost < 2 ^ 43
-    low-plan made q = plan-packs a made q (g .packs) .2
+module _ (cluster before after : List ℕ) (a : Answer) (r : ℕ) (g : Answers cluster (answerOf cluster (length before)) before after a) (e : r ≡ packedAnswer a)
+    (bytes : AreBytes cluster) where
+  told : TellsAnswer r (answerOf cluster (length before))
+  told = rw (e ∙ ap packedAnswer (g .is)) (tells-answer (answerOf cluster (length before)) (packs cluster before bytes (answerOf cluster (length before)) refl))
 
-    low-blocked : (made : Made) → a ≡ Blocked made → made .cost < 2 ^ 43
-    low-blocked made q = blocked-packs a made q (g .packs) .2
+  -- a plan, or blocked, by what the number says
+  plan-is : SaysGood r → answerOf cluster (length before) ≡ Plan (toldMade r)
+  plan-is q = says-plan r (answerOf cluster (length before)) told q
 
-    not-refused : Taken cluster before → refuses (answerOf cluster (length before)) ≡ false
-    not-refused t = ap refuses (taken-answer cluster before t) ∙ go (home (roomOf cluster) (afterAll (currentOf (roomOf cluster)) (stepsFor (roomOf cluster))))
-      where
-        go : (b : Bool) → refuses (pick b (Plan (madeOf (roomOf cluster) (stepsFor (roomOf cluster)))) (Blocked (madeOf (roomOf cluster) (stepsFor (roomOf cluster))))) ≡ false
-        go true = refl
-        go false = refl
+  halt-is : SaysBlocked r → answerOf cluster (length before) ≡ Blocked (toldMade r)
+  halt-is q = says-blocked r (answerOf cluster (length before)) told q
+
+  taken-says : Taken cluster before → SaysGood r ⊎ SaysBlocked r
+  unfolding outcome
+  taken-says t = go (home (roomOf cluster) (afterAll (currentOf (roomOf cluster)) (stepsFor (roomOf cluster)))) (rw (taken-answer cluster before t) at told)
+    where
+      go : (b : Bool) → TellsAnswer r (pick b (Plan (madeOf (roomOf cluster) (stepsFor (roomOf cluster)))) (Blocked (madeOf (roomOf cluster) (stepsFor (roomOf cluster))))) → SaysGood r ⊎ SaysBlocked r
+      go true x = inl (x .0)
+      go false x = inr (x .0)
+
+  says-taken : SaysGood r ⊎ SaysBlocked r → Taken cluster before
+  says-taken (inl q) = taken-of cluster before (ap refuses (plan-is q))
+  says-taken (inr q) = taken-of cluster before (ap refuses (halt-is q))
+
+  front : (t : Taken cluster before) → refuses (answerOf cluster (length before)) ≡ false → frontOf after ≡ planBytes (stepsFor (roomOf cluster))
+  front t n = front-for cluster before t (answerOf cluster (length before)) after n (g .buffer)
+
+  not-refused : Taken cluster before → refuses (answerOf cluster (length before)) ≡ false
+  not-refused t = go (taken-says t)
+    where
+      go : SaysGood r ⊎ SaysBlocked r → refuses (answerOf cluster (length before)) ≡ false
+      go (inl q) = ap refuses (plan-is q)
+      go (inr q) = ap refuses (halt-is q)
+
+  pub built : Built cluster before after r
+  built = record {
+    is = e ∙ ap packedAnswer (g .is);
+    told = told;
+    buffer = g .buffer;
+    answers = (taken-says, says-taken);
+    planned = λ q. let t = says-taken (inl q) in planned-is cluster before t bytes (toldMade r) (frontOf after) (front t (ap refuses (plan-is q))) (plan-is q);
+    halted = λ q. let t = says-taken (inr q) in halted-is cluster before t bytes (toldMade r) (frontOf after) (front t (ap refuses (halt-is q))) (halt-is q);
+    blocked = λ t.
+        let x = blocked-is cluster before t (frontOf after) (front t (not-refused t)) in
+        (λ q. x .0 (toldMade r, halt-is q), λ s. let m = x .1 s in blocked-says r (answerOf cluster (length before)) (m .0) told (m .1));
+    sound = sound-orders (roomOf cluster);
+  }

@@ -27,10 +27,11 @@ use Rattle.rules.specs.declared.tally.Need.{Need}
 use Rattle.rules.specs.declared.tally.Tally.{Tally}
 use Rattle.rules.proofs.Laws.Adding.{joins, Joins, joins-tests, empty-sound, all-snoc, tally-there, tally-else}
 use Rattle.rules.proofs.Laws.Fit.{running-is}
+use Rattle.rules.proofs.Laws.Loads.{loads-size, loads-each}
 use Rattle.rules.proofs.Laws.Places.{target-at}
 use Rattle.rules.proofs.Laws.Sound.{all-more}
 use Rattle.rules.proofs.Laws.Targets.{no-moves, dests-none}
-use Rattle.planner.specs.Picks.{moving, direct, away, joined, joinedAll, directStep}
+use Rattle.planner.specs.Picks.{moving, away, joined, joinedAll, directStep}
 use Rattle.planner.specs.Inner.{Light, joinsIn, goalOf}
 use Rattle.planner.proofs.Laws.Joining.{with-is, dests-longer, dests-above, joins-is, longer-sound}
 
@@ -52,7 +53,7 @@ pub record Directing (s places dests : List ℕ) (v : ℕ) (sums : List Tally) :
 pub rest-tally : (s places dests : List ℕ) (sums : List Tally) (d : ℕ) → dests ≡ replicate 256 64 → Loads s places dests sums → clusterCheck s ≡ Whole → d < 64 →
     getD sums d emptyTally ≡ tallyAt (roomOf s) d (allRunning (firstMoment (roomOf s) (held s places) []))
 rest-tally s places dests sums d e l w h =
-    l .each d h ∙ ap (λ (x : List ℕ). tallyAt (roomOf s) d (busyFrom places x 0 (vmCount s))) (e ∙ sym dests-none) ∙
+    loads-each s places dests sums l d (omega arith) ∙ ap (λ (x : List ℕ). tallyAt (roomOf s) d (busyFrom places x 0 (vmCount s))) (e ∙ sym dests-none) ∙
     ap (tallyAt (roomOf s) d) (running-is s places [] w (no-moves s places))
 
 pub directing-start : (s places dests : List ℕ) (sums : List Tally) → dests ≡ replicate 256 64 → Loads s places dests sums → clusterCheck s ≡ Whole →
@@ -66,7 +67,7 @@ directing-start s places dests sums e l w =
       sound = empty-sound (roomOf s) (held s places);
       below = refl;
       left = rw (sub-zero (vmCount s), vms-count s);
-      size = l .size;
+      size = loads-size s places dests sums l;
       each = λ d h. rest-tally s places dests sums d e l w h;
       memory-most = λ d. rw z (l .memory-most d);
       cpu-most = λ d. rw z (l .cpu-most d);

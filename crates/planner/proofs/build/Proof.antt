@@ -1,4 +1,5 @@
-use Rattle.planner.proofs.Laws.Promised.{built}
+use Rattle.planner.proofs.Laws.Promised.{answer-packs, built}
+use native.Mathlib.Omega.{arith}
 use borrow.Author.Needs.{needs}
 use Rattle.planner.proofs.build.Statement.{statement}
 use Rattle.planner.proofs.build.Tie as tie
@@ -13,7 +14,7 @@ answer-to-requires c κs = search needs
 
 -- src/lib.rt:24:5
 pack-requires : tie.Need-pack-requires
-pack-requires c κs = search needs
+pack-requires c κs = answer-packs _ _ _ _ (c .before .before .answer-to .ensures) (λ i. omega (arith, c .before .before .before .before .before .shared-slice-known .given i))
 
 -- src/lib.rt:20:1
 same-length : tie.Need-same-length
@@ -21,7 +22,7 @@ same-length c = search needs
 
 -- src/lib.rt:20:1
 returns : tie.Need-returns
-returns c = search (needs, built)
+returns c = built _ _ _ _ _ (c .before .before .before .answer-to .ensures) (c .pack .ensures) (λ i. omega (arith, c .before .before .before .before .before .before .shared-slice-known .given i))
 
 pub build-spec : {M : Type 1} → statement M
 build-spec = tie.close (tie.spec answer-to-requires pack-requires same-length returns)

@@ -1,15 +1,17 @@
 -- Laws on the whole cluster record: each refusal in its turn, and what an undamaged record has.
-use Prim.Native.Nat.{ℕ, zero, suc, _+_, _-_, _*_, _≤_, _<_}
+use Prim.Native.Nat.{ℕ, _+_, _-_, _*_, _≤_, _<_, _^_}
 use mathlib.Core.Bool.{Bool, true, false, not, _&&_, _||_}
-use mathlib.Core.List.{List, [], _∷_}
+use mathlib.Core.List.{List}
+use mathlib.Core.Logic.{by-cases}
 use mathlib.Core.Path.{_≡_, refl, sym, ap, _∙_}
+use native.Mathlib.Decide.{decLt}
 use native.Mathlib.Omega.{arith}
-use lib.ListN.{length, getD}
+use lib.ListN.{length, List·getD-eq-default}
 use lib.Dec.{ltb, leb, eqb}
 use borrow.Author.Tests.{lt-ltb, le-ltb, eq-eqb, ne-eqb, ltb-true, ltb-false, leb-true, eqb-true, not-false}
 use Rattle.records.specs.Base.{pick, all}
 use Rattle.records.specs.Bytes.{byteAt, be16, be24, be32, AreBytes}
-use Rattle.records.specs.Room.{Node, Vm, noNode, noVm, nodeOf, vmOf, nodeRow, vmRow, nodeCount, vmCount, constraintCount, vmsStart, constraintsStart, roomOf, partsOf, partsEnd, countsOk, vmOk, wellFormed, clusterCheck, Checked}
+use Rattle.records.specs.Room.{Node, Vm, noNode, noVm, nodeOf, vmOf, nodeRow, vmRow, nodeCount, vmCount, constraintCount, vmsStart, constraintsStart, roomOf, partsOf, partsEnd, countsOk, vmOk, wellFormed, clusterCheck}
 use Rattle.records.specs.declared.faults.ClusterFault.{ClusterFault}
 use Rattle.records.specs.declared.faults.ClusterFault.the-variants.{TooShort, Version, Length, Counts, Fill, VmRow, Constraint}
 use Rattle.records.specs.declared.faults.ClusterCheck.{ClusterCheck}
@@ -220,3 +222,14 @@ module _ (s : List ℕ) (v at r : ℕ) (e : at ≡ vmsStart s + v * 7) (w : clus
 
   pub target-below : r ≡ byteAt s (at + 6) → r < nodeCount s
   target-below f = rw (vm-target-is s v at e h r f) (vm-target-below s v w h)
+
+-- what a VM needs, from the bytes of its row
+pub vm-memory-most : (s : List ℕ) (v : ℕ) → AreBytes s → vmOf (roomOf s) v .memory < 2 ^ 24
+unfolding vmOf vmRow be24 be16
+vm-memory-most s v b =
+    by-cases (decLt v (vmCount s))
+    (λ h. let at = vmsStart s + v * 7 in
+    let x = b at in let y = b (at + 1) in let z = b (at + 2) in
+    rw (ap (λ (m : Vm). m .memory) (vm-at s v h)) (omega arith))
+    (λ h. let l : length (roomOf s .vms) ≤ v = rw (vms-count s) (omega arith) in
+    rw (ap (λ (m : Vm). m .memory) (List·getD-eq-default (roomOf s .vms) noVm l)) (omega arith))

@@ -1,6 +1,6 @@
 -- Laws on the table of where each VM may go: the passes that fill it, and that it says what the definition says.
-use Prim.Native.Nat.{ℕ, zero, suc, _+_, _-_, _*_, _≤_, _<_, _^_}
-use mathlib.Core.Bool.{Bool, true, false, not, _&&_, _||_, and-false, Bool·not-not}
+use Prim.Native.Nat.{ℕ, zero, suc, _+_, _-_, _*_, _/_, _%_, _≤_, _<_}
+use mathlib.Core.Bool.{Bool, true, false, not, _&&_, _||_, and-false}
 use mathlib.Core.List.{List, [], _∷_, map}
 use mathlib.Core.Logic.{by-cases}
 use mathlib.Core.Path.{_≡_, refl, sym, ap, _∙_}
@@ -9,11 +9,11 @@ use native.Mathlib.Numerals.{add-one}
 use native.Mathlib.Nat.{le-refl}
 use native.Mathlib.Omega.{arith}
 use lib.ListN.{length, getD, set, drop, replicate, length-set, length-replicate, getD-replicate, drop-of-length-le}
-use lib.Seq.{drop-cons, getD-set-same, getD-set-other}
-use lib.Dec.{ltb, leb, eqb}
+use lib.Seq.{drop-cons, getD-set-same, getD-set-other, ext-getD}
+use lib.Dec.{ltb, eqb}
 use borrow.Author.Tests.{lt-ltb, le-ltb, eq-eqb, ne-eqb, ltb-true}
 use Rattle.records.specs.Base.{pick, all}
-use Rattle.records.specs.Room.{Constraint, ban, fence, spread, latency, kindOf, vmsOf, nodesOf, has, Room, roomOf, vmCount, nodeCount, constraintsStart, constraintCount, partEnd, partAt, partsFrom, constraintOf, rises, listOk, constraintOk, filled, wellFormed, clusterCheck}
+use Rattle.records.specs.Room.{Constraint, ban, fence, spread, latency, kindOf, vmsOf, nodesOf, has, roomOf, vmCount, nodeCount, constraintsStart, constraintCount, partEnd, partAt, partsFrom, constraintOf, rises, listOk, constraintOk, filled, wellFormed, clusterCheck}
 use Rattle.records.specs.Inner.{Below, Parts}
 use Rattle.records.specs.declared.constraints.Kind.{Kind}
 use Rattle.records.specs.declared.constraints.Kind.the-variants.{Ban, Fence, Spread, Latency}
@@ -24,8 +24,9 @@ use Rattle.records.proofs.Laws.Cluster.{nodes-most, vms-most}
 use Rattle.records.proofs.Laws.Walk.{constraints-are, walk-start, walk-cons, walk-ok, vms-sound, nodes-sound}
 use Rattle.records.proofs.Laws.Parts.{parts-step}
 use Rattle.rules.proofs.Laws.Sound.{all-more}
-use Rattle.rules.specs.Rules.{keepsFrom, allowed}
-use Rattle.rules.specs.Inner.{keptMark, rowKept, listKept, stopped, applied, appliedAll, Allows}
+use Rattle.rules.proofs.Laws.Tables.{table-length, table-at}
+use Rattle.rules.specs.Rules.{from, keepsFrom, allowed}
+use Rattle.rules.specs.Inner.{keptMark, rowKept, listKept, stopped, applied, appliedAll, allowTable, Allows}
 
 -- ---- the turns of the passes
 
@@ -269,21 +270,56 @@ small-parts s at (suc n) m d =
     (vms-small s (constraintOf (partAt s at)) m (and-right (filled (partAt s at)) _ (and-left (filled (partAt s at) && constraintOk (vmCount s) (nodeCount s) (constraintOf (partAt s at))) _ d)))
     (small-parts s (partEnd s at) n m (and-right (filled (partAt s at) && constraintOk (vmCount s) (nodeCount s) (constraintOf (partAt s at))) _ d))
 
+all-applied-length : (table : List ℕ) (ps : List (List ℕ)) → length table ≡ 16384 → small ps ≡ true → length (appliedAll table ps) ≡ 16384
+unfolding appliedAll small all
+all-applied-length table [] z b = z
+all-applied-length table (p ∷ ps) z b =
+    all-applied-length (applied table (constraintOf p)) ps
+    (applied-length table (constraintOf p) z (and-left (all (λ v. ltb v 256) (vmsOf (constraintOf p))) (small ps) b)) (and-right (all (λ v. ltb v 256) (vmsOf (constraintOf p))) (small ps) b)
+
 pub allow-end : (s table : List ℕ) (at left : ℕ) → clusterCheck s ≡ Whole →
-    appliedAll table (partsFrom s at left) ≡ appliedAll (replicate 16384 1) (partsFrom s (constraintsStart s) (constraintCount s)) → left ≤ 0 → Allows s table
-unfolding allowed
-allow-end s table at left w inv z = record { each = each }
+    appliedAll table (partsFrom s at left) ≡ appliedAll (replicate 16384 1) (partsFrom s (constraintsStart s) (constraintCount s)) → left ≤ 0 → table ≡ allowTable (roomOf s)
+unfolding allowed allowTable
+allow-end s table at left w inv z = ext-getD 0 table (map mark (from 0 16384)) (size ∙ sym (table-length mark 0 16384)) each
   where
+    mark : ℕ → ℕ
+    mark i = pick (all (λ k. not (has (vmsOf k) (i / 64) && keepsFrom k (i % 64))) (roomOf s .constraints)) 1 0
+
     ones : length {A = ℕ} (replicate 16384 1) ≡ 16384
     ones = length-replicate {A = ℕ} 16384 1
 
-    each : (v d : ℕ) → v < vmCount s → d < 64 → getD table (v * 64 + d) 0 ≡ pick (all (λ k. not (has (vmsOf k) v && keepsFrom k d)) (roomOf s .constraints)) 1 0
+    low : small (partsFrom s (constraintsStart s) (constraintCount s)) ≡ true
+    low = small-parts s (constraintsStart s) (constraintCount s) (vms-most s w) (walk-start s w .sound)
+
+    whole : table ≡ appliedAll (replicate 16384 1) (partsFrom s (constraintsStart s) (constraintCount s))
+    whole = no-parts s table at left z ∙ inv
+
+    size : length table ≡ 16384
+    size = ap length whole ∙ all-applied-length (replicate 16384 1) (partsFrom s (constraintsStart s) (constraintCount s)) ones low
+
+    each : (i : ℕ) → i < length table → getD table i 0 ≡ getD (map mark (from 0 16384)) i 0
+    each i h =
+        let l : i < 16384 = omega (arith, size) in
+        let k : i % 64 < 64 = omega arith in
+        let n : i ≡ i / 64 * 64 + i % 64 = omega arith in
+        let o : 0 + i ≡ i = omega arith in
+        let j : i / 64 * 64 + i % 64 < 16384 = omega arith in
+        ap (getD table i) refl ∙ ap (λ (x : ℕ). getD table x 0) n ∙ ap (λ (t : List ℕ). getD t (i / 64 * 64 + i % 64) 0) whole ∙
+        all-applied-at (replicate 16384 1) (partsFrom s (constraintsStart s) (constraintCount s)) (i / 64) (i % 64) ones low k ∙
+        rw (getD-replicate {A = ℕ} 16384 (i / 64 * 64 + i % 64) 1 0 j, ← constraints-are s) (sym (table-at mark 0 0 16384 i l ∙ ap mark o))
+
+-- what a walk over the VMs reads in the table
+pub table-allows : (s table : List ℕ) → table ≡ allowTable (roomOf s) → clusterCheck s ≡ Whole → Allows s table
+unfolding allowTable
+table-allows s table e w = record { each = each }
+  where
+    each : (v d : ℕ) → v < vmCount s → d < 64 → getD table (v * 64 + d) 0 ≡ pick (allowed (roomOf s) v d) 1 0
     each v d h k =
         let m = vms-most s w in
         let i : v * 64 + d < 16384 = omega arith in
-        ap (λ (t : List ℕ). getD t (v * 64 + d) 0) (no-parts s table at left z ∙ inv) ∙
-        all-applied-at (replicate 16384 1) (partsFrom s (constraintsStart s) (constraintCount s)) v d ones (small-parts s (constraintsStart s) (constraintCount s) m (walk-start s w .sound)) k ∙
-        rw (getD-replicate {A = ℕ} 16384 (v * 64 + d) 1 0 i, ← constraints-are s)
+        let p : (0 + (v * 64 + d)) / 64 ≡ v = omega arith in
+        let q : (0 + (v * 64 + d)) % 64 ≡ d = omega arith in
+        ap (λ (t : List ℕ). getD t (v * 64 + d) 0) e ∙ table-at (λ i. pick (allowed (roomOf s) (i / 64) (i % 64)) 1 0) 0 0 16384 (v * 64 + d) i ∙ rw (p, q)
 
 pub below-same : (n : ℕ) (a b : List ℕ) → a ≡ b → Below n b → Below n a
 below-same n a b e h = rw e h

@@ -1,18 +1,19 @@
 -- Laws on the cost: the passes over a step's moves, and the recurrence over the steps.
-use Prim.Native.Nat.{ℕ, zero, suc, _+_, _-_, _*_, _≤_, _<_, _^_, max}
+use Prim.Native.Nat.{ℕ, suc, _+_, _-_, _*_, _≤_, _<_, _^_, max}
 use mathlib.Core.List.{List, [], _∷_}
-use mathlib.Core.Path.{_≡_, refl, sym, ap, _∙_}
+use mathlib.Core.Path.{_≡_, sym, ap, _∙_}
 use native.Mathlib.Omega.{arith}
-use lib.ListN.{length, getD, drop, drop-of-length-le, List·getD-eq-default}
+use lib.ListN.{length, drop, drop-of-length-le, List·getD-eq-default}
 use mir.Syntax.{w64}
 use mir.Val.{Fits}
 use Rattle.records.specs.Base.{sumOf}
-use Rattle.records.specs.Room.{Room, Vm, noVm, vmOf, roomOf, vmCount, clusterCheck}
-use Rattle.records.specs.Plan.{Move, Step, moveOf, moveCount, stepAt, stepEnd, stepCount, stepsFrom, stepsOf, moveTotal, planCheck}
+use Rattle.records.specs.Bytes.{AreBytes}
+use Rattle.records.specs.Room.{Room, Vm, noVm, vmOf, roomOf, vmCount}
+use Rattle.records.specs.Plan.{Step, moveOf, moveCount, stepAt, stepEnd, stepCount, stepsFrom, stepsOf, moveTotal, planCheck}
 use Rattle.records.specs.Inner.{Steps}
 use Rattle.records.specs.declared.faults.PlanCheck.the-variants.{Whole}
-use Rattle.records.proofs.Laws.Cluster.{vms-count}
-use Rattle.records.proofs.Laws.Steps.{step-length, steps-cons, steps-next, step-within, steps-start, steps-most, total-cons}
+use Rattle.records.proofs.Laws.Cluster.{vms-count, vm-memory-most}
+use Rattle.records.proofs.Laws.Steps.{step-length, steps-length, steps-cons, steps-next, step-within, steps-start, steps-most, total-cons}
 use Rattle.rules.specs.Cost.{memoryOf, stepCost, costFrom, costOf}
 use Rattle.rules.specs.Inner.{movesCost}
 use Rattle.rules.proofs.Laws.Places.{step-cons}
@@ -96,3 +97,35 @@ cost-start plan n q w = rw q (steps-start plan w)
 
 pub cost-bound : (plan : List ℕ) (n r : ℕ) → n ≡ stepCount plan → planCheck plan ≡ Whole → r ≤ moveTotal (stepsFrom plan 7 n) * 8589934080 → r < 2 ^ 43
 cost-bound plan n r q w h = let t = cost-start plan n q w .total in omega arith
+
+-- ---- the bound, over the definitions alone
+
+module _ (room : Room) (low : (v : ℕ) → vmOf room v .memory < 2 ^ 24) where
+  step-low : (step : Step) → stepCost room step ≤ 16777215
+  unfolding stepCost memoryOf
+  step-low [] = omega arith
+  step-low (move ∷ moves) = let h = low (move .vm) in let k = step-low moves in omega arith
+
+  moves-low : (before : ℕ) (step : Step) → before + 16777215 ≤ 8589934080 → sumOf (λ move. memoryOf room move + before) step ≤ length step * 8589934080
+  unfolding sumOf memoryOf
+  moves-low before [] b = omega arith
+  moves-low before (move ∷ moves) b = let h = low (move .vm) in let k = moves-low before moves b in omega arith
+
+  from-low : (before : ℕ) (steps : List Step) → before + length steps * 16777215 ≤ 8589934080 → costFrom room before steps ≤ moveTotal steps * 8589934080
+  unfolding costFrom moveTotal sumOf
+  from-low before [] b = omega arith
+  from-low before (step ∷ steps) b =
+      let h = step-low step in
+      let k = moves-low before step (omega arith) in
+      let i = from-low (before + stepCost room step) steps (omega arith) in
+      omega arith
+
+-- a plan on a record of bytes costs less than 2 to the 43
+pub cost-low : (s plan : List ℕ) → AreBytes s → planCheck plan ≡ Whole → costOf (roomOf s) (stepsOf plan) < 2 ^ 43
+unfolding costOf stepsOf
+cost-low s plan b w =
+    let n = steps-most plan w in
+    let t = steps-start plan w .total in
+    let l = steps-length plan 7 (stepCount plan) in
+    let h = from-low (roomOf s) (λ v. vm-memory-most s v b) 0 (stepsFrom plan 7 (stepCount plan)) (omega arith) in
+    omega arith

@@ -7,24 +7,25 @@ use mathlib.Core.Path.{_≡_, refl, sym, ap, _∙_}
 use native.Mathlib.Decide.{ℕ-discrete, decLt}
 use native.Mathlib.Numerals.{add-one}
 use native.Mathlib.Omega.{arith}
-use lib.ListN.{length, getD, set, take, drop, replicate, length-set, length-replicate, getD-replicate, drop-of-length-le, List·getD-eq-default}
+use lib.ListN.{length, getD, set, drop, length-set, length-replicate, getD-replicate, drop-of-length-le, List·getD-eq-default}
 use lib.Seq.{getD-take, getD-set-same, getD-set-other}
 use lib.Dec.{ltb, leb, eqb}
 use mir.Syntax.{w64}
 use mir.Val.{Fits}
 use borrow.Author.Tests.{lt-ltb, le-leb, lt-leb, ltb-true, eq-eqb, ne-eqb, eqb-false, not-true}
-use Rattle.records.specs.Base.{pick, all}
-use Rattle.records.specs.Room.{Room, Node, nodeOf, vmOf, roomOf, nodeCount, vmCount, clusterCheck}
+use Rattle.records.specs.Base.{all}
+use Rattle.records.specs.Room.{Room, Node, nodeOf, roomOf, nodeCount, vmCount, clusterCheck}
 use Rattle.records.specs.Plan.{Move, Step, moveOf, moveCount, stepAt}
 use Rattle.records.specs.declared.faults.ClusterCheck.the-variants.{Whole}
-use Rattle.records.proofs.Laws.Bools.{and-left, and-right, and-both, all-same, all-at}
+use Rattle.records.proofs.Laws.Bools.{and-left, and-right, and-both}
 use Rattle.records.proofs.Laws.Cluster.{nodes-most, vms-most, vms-count, nodes-count}
 use Rattle.records.proofs.Laws.Steps.{step-length}
-use Rattle.rules.specs.Moments.{Placement, placeOf, Phase, idle, waiting, running, ended, Cell, cell, Moment, emptyTally, within, tallyAt, phaseOf, cellsFrom, firstMoment, begun, allRunning}
+use Rattle.rules.specs.Moments.{Placement, placeOf, waiting, emptyTally, within, tallyAt, phaseOf, cellsFrom, firstMoment, begun, allRunning}
 use Rattle.rules.specs.Rules.{named, fitting}
-use Rattle.rules.specs.Inner.{held, Holds, destsFrom, goalIn, busyFrom, Ready, Loads, Aimed, fitsIn}
+use Rattle.rules.specs.Inner.{held, destsFrom, goalIn, busyFrom, Ready, Loads, Aimed, fitsIn}
 use Rattle.rules.specs.declared.tally.Tally.{Tally}
 use Rattle.rules.proofs.Laws.Places.{step-cons}
+use Rattle.rules.proofs.Laws.Loads.{loads-each}
 
 -- ---- a tally within a node
 
@@ -245,4 +246,4 @@ module _ (s places : List ℕ) (step : Step) (w : clusterCheck s ≡ Whole) (n :
 
   pub fitting-is : (sums : List Tally) (r : Bool) → r ≡ fitsIn (roomOf s) sums step → Loads s places (destsFrom step) sums → r ≡ fitting (roomOf s) (held s places) step
   unfolding fitsIn fitting
-  fitting-is sums r e l = e ∙ each-same sums (λ d. tallyAt (roomOf s) d (allRunning (firstMoment (roomOf s) (held s places) step))) (roomOf s) step far-step (λ d h. l .each d h ∙ ap (tallyAt (roomOf s) d) running-is)
+  fitting-is sums r e l = e ∙ each-same sums (λ d. tallyAt (roomOf s) d (allRunning (firstMoment (roomOf s) (held s places) step))) (roomOf s) step far-step (λ d h. loads-each s places (destsFrom step) sums l d (omega arith) ∙ ap (tallyAt (roomOf s) d) running-is)

@@ -1,15 +1,15 @@
 -- The passes over the constraints decide what it means that a placement keeps them.
-use Prim.Native.Nat.{ℕ, zero, suc, _+_, _-_, _*_, _≤_, _<_}
-use mathlib.Core.Bool.{Bool, true, false, not, _&&_, _||_, and-false, or-true, or-false}
+use Prim.Native.Nat.{ℕ, _+_, _-_, _≤_, _<_}
+use mathlib.Core.Bool.{Bool, true, false, not, _&&_, _||_, and-false, or-true}
 use mathlib.Core.List.{List, [], _∷_, map}
 use mathlib.Core.Path.{_≡_, refl, sym, ap, _∙_}
 use native.Mathlib.Omega.{arith}
 use lib.ListN.{length, getD, replicate, length-replicate, getD-replicate}
-use lib.Dec.{ltb, leb, eqb}
+use lib.Dec.{ltb, eqb}
 use borrow.Author.Tests.{lt-ltb, eq-eqb, ltb-true}
 use Rattle.records.specs.Base.{pick, all}
-use Rattle.records.specs.Room.{Constraint, ban, fence, spread, latency, vmsOf, nodesOf, groupsOf, has, rises, listOk, Room, roomOf, nodeCount, vmCount, partAt, partsFrom, constraintsStart, constraintCount, constraintOf, constraintOk, filled, clusterCheck}
-use Rattle.records.specs.Inner.{Below, Parts}
+use Rattle.records.specs.Room.{Constraint, ban, fence, spread, latency, groupsOf, has, rises, listOk, roomOf, nodeCount, vmCount, partAt, partsFrom, constraintsStart, constraintCount, constraintOf, constraintOk, clusterCheck}
+use Rattle.records.specs.Inner.{Parts}
 use Rattle.records.specs.declared.faults.ClusterCheck.the-variants.{Whole}
 use Rattle.records.proofs.Laws.Bools.{and-left, and-right, and-both, all-same, all-and, all-true}
 use Rattle.records.proofs.Laws.Cluster.{nodes-most}
@@ -17,10 +17,11 @@ use Rattle.records.proofs.Laws.Walk.{walk-filled, walk-ok, groups-sound}
 use Rattle.rules.specs.Moments.{Placement, placeOf, targetOf}
 use Rattle.rules.specs.Orders.{some}
 use Rattle.rules.specs.Rules.{fitsAll, spreadOut, keeps, targetCheck}
-use Rattle.rules.specs.Inner.{held, Placed, Holds, Low, Formed, stopped, goUnmet, clearOf, groupHolds, keepsIn}
+use Rattle.rules.specs.Inner.{held, arrayOf, Low, Formed, stopped, goUnmet, clearOf, groupHolds, keepsIn}
 use Rattle.rules.specs.declared.faults.TargetFault.the-variants.{Overfull, Broken}
 use Rattle.rules.specs.declared.faults.TargetCheck.the-variants.{Good, Bad}
 use Rattle.rules.proofs.Laws.Allow.{walk-below, stopped-at}
+use Rattle.rules.proofs.Laws.Places.{target-holds}
 use Rattle.rules.proofs.Laws.Fit.{held-at}
 use Rattle.rules.proofs.Laws.Meet.{arrives, go-arrives, marks-none, has-below, constraints-ok}
 use Rattle.rules.proofs.Laws.Sound.{all-more}
@@ -157,9 +158,9 @@ module _ (s places : List ℕ) (l : Low places) where
 
 -- ---- the target
 
-module _ (s places : List ℕ) (w : clusterCheck s ≡ Whole) (h : Holds s places (targetOf (roomOf s))) (fit : Bool) (e : fit ≡ fitsAll (roomOf s) (held s places)) where
+module _ (s places : List ℕ) (q : places ≡ arrayOf (targetOf (roomOf s))) (w : clusterCheck s ≡ Whole) (fit : Bool) (e : fit ≡ fitsAll (roomOf s) (held s places)) where
   fit-is : fit ≡ fitsAll (roomOf s) (targetOf (roomOf s))
-  fit-is = e ∙ ap (fitsAll (roomOf s)) (h .is)
+  fit-is = e ∙ ap (fitsAll (roomOf s)) (target-holds s places q w .is)
 
   pub target-overfull : fit ≡ false → Bad Overfull ≡ targetCheck (roomOf s)
   unfolding targetCheck
@@ -167,7 +168,7 @@ module _ (s places : List ℕ) (w : clusterCheck s ≡ Whole) (h : Holds s place
 
   module _ (kept : Bool) (f : kept ≡ all (keepsIn places) (roomOf s .constraints)) (o : fit ≡ true) (l : Low places) where
     kept-target : kept ≡ all (keeps (targetOf (roomOf s))) (roomOf s .constraints)
-    kept-target = f ∙ all-kept-is s places l (roomOf s .constraints) (constraints-ok s w) ∙ ap (λ (x : Placement). all (keeps x) (roomOf s .constraints)) (h .is)
+    kept-target = f ∙ all-kept-is s places l (roomOf s .constraints) (constraints-ok s w) ∙ ap (λ (x : Placement). all (keeps x) (roomOf s .constraints)) (target-holds s places q w .is)
 
     pub target-broken : kept ≡ false → Bad Broken ≡ targetCheck (roomOf s)
     unfolding targetCheck
@@ -176,6 +177,3 @@ module _ (s places : List ℕ) (w : clusterCheck s ≡ Whole) (h : Holds s place
     pub target-good : kept ≡ true → Good ≡ targetCheck (roomOf s)
     unfolding targetCheck
     target-good p = simp (sym fit-is ∙ o, sym kept-target ∙ p)
-
-pub holds-placed : (s places : List ℕ) (placement : Placement) → Holds s places placement → Placed s places
-holds-placed s places placement h = h .placed

@@ -1,24 +1,27 @@
 -- Laws on the sums of a step: adding the VMs one by one, each to its place and its destination, gives the tally of every node.
 use Prim.Native.Nat.{ℕ, zero, suc, _+_, _-_, _*_, _≤_, _<_, _^_}
-use mathlib.Core.Bool.{Bool, true, false, _&&_, _||_, or-false, or-true}
-use mathlib.Core.List.{List, [], _∷_}
+use mathlib.Core.Bool.{Bool, true, false, _||_, or-false, or-true}
+use mathlib.Core.List.{List, map}
 use mathlib.Core.Logic.{by-cases}
 use mathlib.Core.Path.{_≡_, refl, sym, ap, _∙_}
 use native.Mathlib.Decide.{ℕ-discrete, decLt}
-use native.Mathlib.Nat.{sub-zero}
 use native.Mathlib.Omega.{arith}
 use lib.ListN.{length, getD, set, replicate, length-set, length-replicate, getD-replicate, List·getD-eq-default}
-use lib.Seq.{getD-set-same, getD-set-other}
+use lib.Seq.{getD-set-same, getD-set-other, ext-getD}
 use mir.Syntax.{w64}
 use mir.Val.{Fits}
-use lib.Dec.{ltb, leb, eqb}
+use lib.Dec.{eqb}
 use borrow.Author.Tests.{eq-eqb, ne-eqb}
 use Rattle.records.specs.Base.{pick}
-use Rattle.records.specs.Room.{Room, Vm, vmOf, roomOf, vmCount}
-use Rattle.rules.specs.Moments.{Phase, idle, running, Cell, cell, Moment, countsOn, emptyTally, withVm, tallyAt}
-use Rattle.rules.specs.Inner.{NeedOf, goalIn, busyFrom, Ready, Loaded, Loads}
+use Rattle.records.specs.Room.{Room, vmOf, roomOf, vmCount, clusterCheck}
+use Rattle.records.specs.declared.faults.ClusterCheck.the-variants.{Whole}
+use Rattle.records.proofs.Laws.Cluster.{vms-most}
+use Rattle.rules.specs.Moments.{cell, countsOn, emptyTally, withVm, tallyAt}
+use Rattle.rules.specs.Rules.{from}
+use Rattle.rules.specs.Inner.{NeedOf, goalIn, busyFrom, Ready, Loaded, loadsOf, Loads}
 use Rattle.rules.specs.declared.tally.Need.{Need}
 use Rattle.rules.specs.declared.tally.Tally.{Tally}
+use Rattle.rules.proofs.Laws.Tables.{table-length, table-at}
 
 -- ---- the start
 
@@ -47,6 +50,13 @@ counts-is dests u p d h =
     by-cases (ℕ-discrete (getD dests u 0) 64)
     (λ q. simp (q, ne-eqb 64 d (λ e. omega arith), or-false))
     (λ q. simp (ne-eqb (getD dests u 0) 64 q))
+
+counts-none : (dests : List ℕ) (u p : ℕ) → eqb p 64 ≡ false → countsOn 64 (cell u p (goalIn dests u)) ≡ false
+unfolding countsOn goalIn
+counts-none dests u p h =
+    by-cases (ℕ-discrete (getD dests u 0) 64)
+    (λ q. simp (eq-eqb (getD dests u 0) 64 q) h)
+    (λ q. simp (ne-eqb (getD dests u 0) 64 q) (or-false (eqb p 64) ∙ h))
 
 -- a tally with a VM's need
 plus : Need → Tally → Tally
@@ -108,9 +118,24 @@ module _ (s places dests : List ℕ) (v q : ℕ) (y : q ≡ getD dests (v - 1) 0
   dest-offset = let w = r .most (v - 1) (omega arith) in record { fits = omega arith }
 
 -- the second sum is read as it was
-pub second-same : (s places dests : List ℕ) (v p q : ℕ) (sums : List Tally) (one : Tally) → p ≡ getD places (v - 1) 0 → q ≡ getD dests (v - 1) 0 →
+second-same : (s places dests : List ℕ) (v p q : ℕ) (sums : List Tally) (one : Tally) → p ≡ getD places (v - 1) 0 → q ≡ getD dests (v - 1) 0 →
     Ready s places dests → 0 < v → v ≤ vmCount s → getD (set sums p one) q emptyTally ≡ getD sums q emptyTally
 second-same s places dests v p q sums one x y r h k = getD-set-other sums p q one emptyTally (λ e. r .leaves (v - 1) (omega arith) (sym y ∙ e ∙ x))
+
+-- a VM can be added to a sum, and to the second once the first has changed
+module _ (s places dests : List ℕ) (v : ℕ) (sums : List Tally) (w : Loaded s places dests v sums) (c : clusterCheck s ≡ Whole) where
+  pub light-memory : (d : ℕ) → getD sums d emptyTally .memory < 2 ^ 40
+  light-memory d = let m = vms-most s c in let h = w .memory-most d in omega arith
+
+  pub light-cpu : (d : ℕ) → getD sums d emptyTally .cpu < 2 ^ 40
+  light-cpu d = let m = vms-most s c in let h = w .cpu-most d in omega arith
+
+  module _ (p q : ℕ) (one : Tally) (x : p ≡ getD places (v - 1) 0) (y : q ≡ getD dests (v - 1) 0) (r : Ready s places dests) (h : 0 < v) (k : v ≤ vmCount s) where
+    pub second-memory : getD (set sums p one) q emptyTally .memory < 2 ^ 40
+    second-memory = rw (second-same s places dests v p q sums one x y r h k) (light-memory q)
+
+    pub second-cpu : getD (set sums p one) q emptyTally .cpu < 2 ^ 40
+    second-cpu = rw (second-same s places dests v p q sums one x y r h k) (light-cpu q)
 
 -- the turn, at VM u = v - 1
 module _ (s places dests : List ℕ) (v p q : ℕ) (sums : List Tally) (vm : Need) (one two : Tally) (w : Loaded s places dests v sums)
@@ -148,13 +173,63 @@ module _ (s places dests : List ℕ) (v p q : ℕ) (sums : List Tally) (vm : Nee
           cpu-most = λ d. rw less (more-cpu p q sums vm one two (w .size) hp′ hq′ load-leaves a b d (vmCount s - v) (w .cpu-most d) (m .cpu-most));
         }
 
-pub loaded-end : (s places dests : List ℕ) (v : ℕ) (sums : List Tally) → Loaded s places dests v sums → v ≤ 0 → Loads s places dests sums
-loaded-end s places dests v sums w h =
-    let z : v ≡ 0 = omega arith in
-    let all : vmCount s - v ≡ vmCount s = omega arith in
-    record {
-      size = w .size;
-      each = λ d g. w .each d g ∙ ap (λ (k : ℕ). tallyAt (roomOf s) d (busyFrom places dests k (vmCount s - k))) z ∙ ap (λ (k : ℕ). tallyAt (roomOf s) d (busyFrom places dests 0 k)) (sub-zero (vmCount s));
-      memory-most = λ d. rw (← all) (w .memory-most d);
-      cpu-most = λ d. rw (← all) (w .cpu-most d);
-    }
+-- nobody counts on 64, which is no node
+none-there : (s places dests : List ℕ) → Ready s places dests → (v n : ℕ) → v + n ≤ vmCount s → tallyAt (roomOf s) 64 (busyFrom places dests v n) ≡ emptyTally
+unfolding tallyAt busyFrom
+none-there s places dests r v zero h = refl
+none-there s places dests r v (suc n) h = rw off (none-there s places dests r (suc v) n (omega arith))
+  where
+    far : eqb (getD places v 0) 64 ≡ false
+    far = ne-eqb (getD places v 0) 64 (λ e. let p = r .place v (omega arith) in omega arith)
+
+    off : countsOn 64 (cell v (getD places v 0) (goalIn dests v)) ≡ false
+    off = counts-none dests v (getD places v 0) far
+
+-- ---- the end
+
+module _ (s places dests : List ℕ) (v : ℕ) (sums : List Tally) (w : Loaded s places dests v sums) (r : Ready s places dests) (h : v ≤ 0) where
+  start : v ≡ 0
+  start = omega arith
+
+  total : vmCount s - v ≡ vmCount s
+  total = let z = start in omega arith
+
+  final-at : (d : ℕ) → d < 65 → getD (set sums 64 emptyTally) d emptyTally ≡ tallyAt (roomOf s) d (busyFrom places dests 0 (vmCount s))
+  final-at d g =
+      by-cases (ℕ-discrete d 64)
+      (λ e. let l : 64 < length sums = rw (w .size) (omega arith) in
+      rw e (getD-set-same sums 64 emptyTally emptyTally l ∙ sym (none-there s places dests r 0 (vmCount s) (omega arith))))
+      (λ e. let k : d < 64 = omega arith in
+      getD-set-other sums 64 d emptyTally emptyTally e ∙ w .each d k ∙ ap (λ (i : ℕ). tallyAt (roomOf s) d (busyFrom places dests i (vmCount s - v))) start ∙
+      ap (λ (n : ℕ). tallyAt (roomOf s) d (busyFrom places dests 0 n)) total)
+
+  final-most : (f : Tally → ℕ) (most : ℕ) → f emptyTally ≡ 0 → ((d : ℕ) → f (getD sums d emptyTally) ≤ most) → (d : ℕ) → f (getD (set sums 64 emptyTally) d emptyTally) ≤ most
+  final-most f most z m d =
+      by-cases (ℕ-discrete d 64)
+      (λ e. let l : 64 < length sums = rw (w .size) (omega arith) in rw (e, getD-set-same sums 64 emptyTally emptyTally l, z) (omega arith))
+      (λ e. rw (getD-set-other sums 64 d emptyTally emptyTally e) (m d))
+
+  pub loaded-end : Loads s places dests (set sums 64 emptyTally)
+  unfolding loadsOf
+  loaded-end = record {
+    is = ext-getD emptyTally (set sums 64 emptyTally) (map (λ d. tallyAt (roomOf s) d (busyFrom places dests 0 (vmCount s))) (from 0 65))
+        (length-set sums 64 emptyTally ∙ w .size ∙ sym (table-length (λ d. tallyAt (roomOf s) d (busyFrom places dests 0 (vmCount s))) 0 65))
+        (λ d g. let k : d < 65 = rw (length-set sums 64 emptyTally ∙ w .size) at g in
+        let z : 0 + d ≡ d = omega arith in
+        final-at d k ∙ sym (table-at (λ d. tallyAt (roomOf s) d (busyFrom places dests 0 (vmCount s))) emptyTally 0 65 d k ∙ ap (λ (i : ℕ). tallyAt (roomOf s) i (busyFrom places dests 0 (vmCount s))) z));
+    memory-most = final-most (λ (t : Tally). t .memory) (vmCount s * 16777216) refl (λ d. rw (← total) (w .memory-most d));
+    cpu-most = final-most (λ (t : Tally). t .cpu) (vmCount s * 65536) refl (λ d. rw (← total) (w .cpu-most d));
+  }
+
+-- what the sums say
+module _ (s places dests : List ℕ) (sums : List Tally) (l : Loads s places dests sums) where
+  pub loads-size : length sums ≡ 65
+  unfolding loadsOf
+  loads-size = ap length (l .is) ∙ table-length (λ d. tallyAt (roomOf s) d (busyFrom places dests 0 (vmCount s))) 0 65
+
+  pub loads-each : (d : ℕ) → d < 65 → getD sums d emptyTally ≡ tallyAt (roomOf s) d (busyFrom places dests 0 (vmCount s))
+  unfolding loadsOf
+  loads-each d h =
+      let z : 0 + d ≡ d = omega arith in
+      ap (λ (x : List Tally). getD x d emptyTally) (l .is) ∙ table-at (λ d. tallyAt (roomOf s) d (busyFrom places dests 0 (vmCount s))) emptyTally 0 65 d h ∙
+      ap (λ (i : ℕ). tallyAt (roomOf s) i (busyFrom places dests 0 (vmCount s))) z

@@ -1,62 +1,81 @@
 -- Laws on placements in arrays: filling one from the record, moving, destinations.
-use Prim.Native.Nat.{ℕ, zero, suc, _+_, _-_, _≤_, _<_}
-use mathlib.Core.Bool.{Bool, true, false, _&&_}
-use mathlib.Core.List.{List, [], _∷_, _++_, map}
+use Prim.Native.Nat.{ℕ, suc, _+_, _-_, _≤_, _<_}
+use mathlib.Core.List.{List, [], _∷_, _++_}
 use mathlib.Core.Logic.{by-cases}
 use mathlib.Core.Path.{_≡_, refl, sym, ap, _∙_}
-use native.Mathlib.Decide.{ℕ-discrete, decLt}
+use native.Mathlib.Decide.{decLt}
 use native.Mathlib.Numerals.{add-one}
 use native.Mathlib.Omega.{arith}
-use lib.ListN.{length, getD, set, take, drop, replicate, length-set, length-map, length-replicate, getD-replicate, drop-of-length-le, List·getD-map, List·getD-eq-default}
-use lib.Seq.{take-suc, take-suc-set, drop-cons, take-all, getD-set-same, getD-set-other}
-use Rattle.records.specs.Room.{Vm, Room, noVm, vmOf, roomOf, nodeCount, vmCount, clusterCheck}
-use Rattle.records.specs.Plan.{Move, Step, noMove, moveOf, moveCount, stepAt}
+use lib.ListN.{length, getD, set, take, drop, replicate, length-set, length-map, length-replicate, getD-replicate, drop-of-length-le, List·getD-map, List·getD-append, List·getD-eq-default, take-append-drop}
+use lib.Seq.{take-suc, take-suc-set, drop-cons, drop-drop, drop-set-lt, take-all, take-at, getD-append-add}
+use Rattle.records.specs.Room.{Room, noVm, vmOf, roomOf, nodeCount, vmCount, clusterCheck}
+use Rattle.records.specs.Plan.{noMove, moveOf, moveCount, stepAt}
 use Rattle.records.specs.declared.faults.ClusterCheck.the-variants.{Whole}
-use Rattle.records.proofs.Laws.Cluster.{vms-count, nodes-least}
+use Rattle.records.proofs.Laws.Cluster.{vms-count, nodes-least, vm-current-below, vm-target-below}
 use Rattle.records.proofs.Laws.Steps.{step-length}
 use Rattle.rules.specs.Moments.{Placement, currentOf, targetOf, after}
-use Rattle.rules.specs.Inner.{held, Placed, Holds, Filling, destsFrom}
+use Rattle.rules.specs.Inner.{held, Placed, Holds, arrayOf, Filling, destsFrom}
 
 -- ---- filling an array from the VM rows
 
-zeros : (u : ℕ) → _≡_ {A = ℕ} (getD (replicate 256 0) u 0) 0
-zeros u =
-    by-cases (decLt u 256) (λ p. getD-replicate 256 u 0 0 p)
-    (λ p. let h : length {A = ℕ} (replicate 256 0) ≤ u = simp length-replicate (omega arith) in List·getD-eq-default (replicate 256 0) 0 h)
-
-pub filling-start : (s : List ℕ) (placement : Placement) → clusterCheck s ≡ Whole → Filling s (replicate 256 0) placement 0
-filling-start s placement w =
-    record { size = simp length-replicate; is = refl; below = λ u. rw (zeros u) (nodes-least s w) }
+pub filling-start : (placement : Placement) → Filling (replicate 256 0) placement 0
+filling-start placement = record { size = simp length-replicate; is = refl; rest = refl }
 
 -- one place more
-module _ (s places : List ℕ) (placement : Placement) (v x : ℕ) (f : Filling s places placement v) (e : x ≡ getD placement v 0)
-    (b : x < nodeCount s) (m : v < length placement) (m′ : v < 256) where
-  filling-more : Filling s (set places v x) placement (v + 1)
+module _ (places : List ℕ) (placement : Placement) (v x : ℕ) (f : Filling places placement v) (e : x ≡ getD placement v 0) (m : v < length placement) (m′ : v < 256) where
+  zeros-less : drop (suc v) places ≡ replicate (256 - suc v) 0
+  zeros-less =
+      let k : v + 1 ≡ suc v = omega arith in
+      let n : 256 - v ≡ suc (256 - suc v) = omega arith in
+      ap (λ (i : ℕ). drop i places) (sym k) ∙ sym (drop-drop 1 v places) ∙ ap (drop 1) (f .rest) ∙ ap (λ (i : ℕ). drop 1 (replicate i 0)) n
+
+  filling-more : Filling (set places v x) placement (v + 1)
   filling-more =
       let h : v < length places = rw (f .size) m′ in
+      let l : v < suc v = omega arith in
       record {
         size = length-set places v x ∙ f .size;
         is = rw add-one (take-suc-set places v x h ∙ ap (λ (l : List ℕ). l ++ (x ∷ [])) (f .is) ∙ ap (λ (y : ℕ). take v placement ++ (y ∷ [])) e ∙ sym (take-suc placement v 0 m));
-        below = λ u. by-cases (ℕ-discrete u v)
-            (λ q. rw (ap (λ (k : ℕ). getD (set places v x) k 0) q ∙ getD-set-same places v x 0 h) b)
-            (λ q. rw (getD-set-other places v u x 0 q) (f .below u));
+        rest = rw add-one (drop-set-lt (suc v) places v x l ∙ zeros-less);
       }
 
-filling-end : (s places : List ℕ) (placement : Placement) (v : ℕ) → Filling s places placement v → length placement ≡ vmCount s → vmCount s ≤ v → v ≤ vmCount s →
-    Holds s places placement
-unfolding held
-filling-end s places placement v f e h k =
-    let q : v ≡ vmCount s = omega arith in
-    record { is = ap (λ (n : ℕ). take n places) (sym q) ∙ f .is ∙ take-all v placement (omega arith); placed = record { below = f .below } }
+filling-end : (places : List ℕ) (placement : Placement) (v : ℕ) → Filling places placement v → length placement ≡ v → places ≡ arrayOf placement
+unfolding arrayOf
+filling-end places placement v f e =
+    sym (take-append-drop v places) ∙ ap (λ (l : List ℕ). l ++ drop v places) (f .is ∙ take-all v placement (omega arith)) ∙
+    ap (λ (l : List ℕ). placement ++ l) (f .rest ∙ ap (λ (n : ℕ). replicate (256 - n) 0) (sym e))
+
+-- an array so filled holds the placement
+module _ (s places : List ℕ) (placement : Placement) (q : places ≡ arrayOf placement) (w : clusterCheck s ≡ Whole) (l : length placement ≡ vmCount s)
+    (b : (v : ℕ) → v < vmCount s → getD placement v 0 < nodeCount s) where
+  array-below : (v : ℕ) → getD (arrayOf placement) v 0 < nodeCount s
+  unfolding arrayOf
+  array-below v =
+      by-cases (decLt v (length placement)) (λ h. rw (List·getD-append placement (replicate (256 - length placement) 0) 0 v h) (b v (omega arith)))
+      (λ h. let k : v ≡ length placement + (v - length placement) = omega arith in
+      rw (ap (λ (i : ℕ). getD (placement ++ replicate (256 - length placement) 0) i 0) k ∙ getD-append-add placement (replicate (256 - length placement) 0) (v - length placement) 0 ∙
+      zeros (256 - length placement) (v - length placement)) (nodes-least s w))
+    where
+      zeros : (n u : ℕ) → _≡_ {A = ℕ} (getD (replicate n 0) u 0) 0
+      zeros n u =
+          by-cases (decLt u n) (λ p. getD-replicate n u 0 0 p)
+          (λ p. let h : length {A = ℕ} (replicate n 0) ≤ u = simp length-replicate (omega arith) in List·getD-eq-default (replicate n 0) 0 h)
+
+  array-holds : Holds s places placement
+  unfolding held arrayOf
+  array-holds = record {
+    is = ap (take (vmCount s)) q ∙ take-at placement (replicate (256 - length placement) 0) (vmCount s) l;
+    placed = record { below = λ v. rw q (array-below v) };
+  }
 
 -- the two placements of the record
-pub current-length : (s : List ℕ) → length (currentOf (roomOf s)) ≡ vmCount s
+pub current-count : (s : List ℕ) → length (currentOf (roomOf s)) ≡ vmCount s
 unfolding currentOf
-current-length s = length-map (roomOf s .vms) (λ vm. vm .current) ∙ vms-count s
+current-count s = length-map (roomOf s .vms) (λ vm. vm .current) ∙ vms-count s
 
-pub target-length : (s : List ℕ) → length (targetOf (roomOf s)) ≡ vmCount s
+pub target-count : (s : List ℕ) → length (targetOf (roomOf s)) ≡ vmCount s
 unfolding targetOf
-target-length s = length-map (roomOf s .vms) (λ vm. vm .target) ∙ vms-count s
+target-count s = length-map (roomOf s .vms) (λ vm. vm .target) ∙ vms-count s
 
 pub current-at : (room : Room) (v : ℕ) → getD (currentOf room) v 0 ≡ vmOf room v .current
 unfolding currentOf vmOf
@@ -67,22 +86,32 @@ unfolding targetOf vmOf
 target-at room v = List·getD-map (λ vm. vm .target) (room .vms) v noVm
 
 module _ (s places : List ℕ) (v x n : ℕ) where
-  pub current-more : x ≡ vmOf (roomOf s) v .current → x < nodeCount s → n ≡ vmCount s → Filling s places (currentOf (roomOf s)) v → v < n → n ≤ 256 →
-      Filling s (set places v x) (currentOf (roomOf s)) (v + 1)
-  current-more e b q f h k =
-      filling-more s places (currentOf (roomOf s)) v x f (e ∙ sym (current-at (roomOf s) v)) b (rw (current-length s) (omega arith)) (omega arith)
+  pub current-more : x ≡ vmOf (roomOf s) v .current → n ≡ vmCount s → Filling places (currentOf (roomOf s)) v → v < n → n ≤ 256 →
+      Filling (set places v x) (currentOf (roomOf s)) (v + 1)
+  current-more e q f h k =
+      filling-more places (currentOf (roomOf s)) v x f (e ∙ sym (current-at (roomOf s) v)) (rw (current-count s) (omega arith)) (omega arith)
 
-  pub target-more : x ≡ vmOf (roomOf s) v .target → x < nodeCount s → n ≡ vmCount s → Filling s places (targetOf (roomOf s)) v → v < n → n ≤ 256 →
-      Filling s (set places v x) (targetOf (roomOf s)) (v + 1)
-  target-more e b q f h k =
-      filling-more s places (targetOf (roomOf s)) v x f (e ∙ sym (target-at (roomOf s) v)) b (rw (target-length s) (omega arith)) (omega arith)
+  pub target-more : x ≡ vmOf (roomOf s) v .target → n ≡ vmCount s → Filling places (targetOf (roomOf s)) v → v < n → n ≤ 256 →
+      Filling (set places v x) (targetOf (roomOf s)) (v + 1)
+  target-more e q f h k =
+      filling-more places (targetOf (roomOf s)) v x f (e ∙ sym (target-at (roomOf s) v)) (rw (target-count s) (omega arith)) (omega arith)
 
 module _ (s places : List ℕ) (v n : ℕ) (q : n ≡ vmCount s) where
-  pub current-end : Filling s places (currentOf (roomOf s)) v → v ≤ n → n ≤ v → Holds s places (currentOf (roomOf s))
-  current-end f h k = filling-end s places (currentOf (roomOf s)) v f (current-length s) (omega arith) (omega arith)
+  pub current-end : Filling places (currentOf (roomOf s)) v → v ≤ n → n ≤ v → places ≡ arrayOf (currentOf (roomOf s))
+  current-end f h k = filling-end places (currentOf (roomOf s)) v f (let l = current-count s in omega arith)
 
-  pub target-end : Filling s places (targetOf (roomOf s)) v → v ≤ n → n ≤ v → Holds s places (targetOf (roomOf s))
-  target-end f h k = filling-end s places (targetOf (roomOf s)) v f (target-length s) (omega arith) (omega arith)
+  pub target-end : Filling places (targetOf (roomOf s)) v → v ≤ n → n ≤ v → places ≡ arrayOf (targetOf (roomOf s))
+  target-end f h k = filling-end places (targetOf (roomOf s)) v f (let l = target-count s in omega arith)
+
+module _ (s places : List ℕ) where
+  pub current-holds : places ≡ arrayOf (currentOf (roomOf s)) → clusterCheck s ≡ Whole → Holds s places (currentOf (roomOf s))
+  current-holds q w = array-holds s places (currentOf (roomOf s)) q w (current-count s) (λ v h. rw (current-at (roomOf s) v) (vm-current-below s v w h))
+
+  pub target-holds : places ≡ arrayOf (targetOf (roomOf s)) → clusterCheck s ≡ Whole → Holds s places (targetOf (roomOf s))
+  target-holds q w = array-holds s places (targetOf (roomOf s)) q w (target-count s) (λ v h. rw (target-at (roomOf s) v) (vm-target-below s v w h))
+
+  pub target-placed : places ≡ arrayOf (targetOf (roomOf s)) → clusterCheck s ≡ Whole → Placed s places
+  target-placed q w = target-holds q w .placed
 
 -- ---- moving, and destinations: the moves of the step at a place, one by one
 

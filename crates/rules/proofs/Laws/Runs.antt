@@ -1,7 +1,7 @@
 -- Laws on whole runs: where they end, when all of them obey the rules, how full the nodes are.
 use Prim.Native.Nat.{ℕ, zero, suc, _+_, _≤_}
 use mathlib.Core.Bool.{Bool, true, false, _||_, false≢true, or-true, or-false}
-use mathlib.Core.List.{List, [], _∷_, map}
+use mathlib.Core.List.{List, [], _∷_, _++_, map}
 use mathlib.Core.Logic.{inl, inr, _↔_}
 use mathlib.Core.Path.{_≡_, refl, sym, ap, _∙_}
 use native.Mathlib.Omega.{arith}
@@ -78,6 +78,12 @@ run-ends {room} {places} n l (step {moves = moves} {steps = steps} o s r) =
     let left = order-leaves room places moves (and-left (named room places 0 moves) (namedAll room (after places moves) steps) n) l o s in
     let more : namedAll room (after places moves) steps ≡ true = and-right (named room places 0 moves) (namedAll room (after places moves) steps) n in
     run-ends (rw (← left) at more) (ap length left ∙ after-length places moves ∙ l) r ∙ ap (λ (p : Placement). afterAll p steps) left
+
+-- one more step at the end
+pub after-all-snoc : (places : Placement) (steps : List Step) (s : Step) → afterAll places (steps ++ (s ∷ [])) ≡ after (afterAll places steps) s
+unfolding afterAll
+after-all-snoc places [] s = refl
+after-all-snoc places (moves ∷ steps) s = after-all-snoc (after places moves) steps s
 
 -- there is a run
 pub some-run : (room : Room) (places : Placement) (steps : List Step) → (last : Placement) × Run room places steps last
@@ -172,12 +178,12 @@ begin-most {v = v} {d = d} f (later {c = c} {cs = cs} e) = picked (countsOn d c)
     picked true m h = omega arith
     picked false m h = h
 
-begin-elsewhere : {cs ds : Moment} {v to : ℕ} (d : ℕ) → (to ≡ d → ⊥) → Event cs (begin v to) ds → Under d ds cs
+pub begin-elsewhere : {cs ds : Moment} {v to : ℕ} (d : ℕ) → (to ≡ d → ⊥) → Event cs (begin v to) ds → Under d ds cs
 unfolding countsOn
 begin-elsewhere d h (begins {place = p} {to = to} {cs = cs}) = both (λ e. sym (or-false (eqb p d)) ∙ ap (λ (b : Bool). eqb p d || b) (sym (ne-eqb to d h)) ∙ e) (under-self d cs)
 begin-elsewhere d h (later {c = cell v p x} e) = both (λ e. e) (begin-elsewhere d h e)
 
-end-under : {cs ds : Moment} {v : ℕ} (d : ℕ) → Event cs (finish v) ds → Under d ds cs
+pub end-under : {cs ds : Moment} {v : ℕ} (d : ℕ) → Event cs (finish v) ds → Under d ds cs
 unfolding countsOn
 end-under d (ends {place = p} {to = to} {cs = cs}) = both (λ e. ap (λ (b : Bool). eqb p d || b) e ∙ or-true (eqb p d)) (under-self d cs)
 end-under d (later {c = cell v p x} e) = both (λ e. e) (end-under d e)
@@ -196,15 +202,6 @@ module _ (f : ℕ → ℕ) (d most : ℕ) where
           let k = begin-most f (rw q at e) in
           omega (arith, h q)
       go false t = let k = under-load f (begin-elsewhere d (eqb-false to d t) e) in omega arith
-
-  -- from a node within the bound no moment of an order is above it, its last one included
-  pub order-most : {cs ds : Moment} (o : Order cs ds) → EachBegin Room-for o → load f d cs ≤ most → EachMoment (λ ms. load f d ms ≤ most) o × (load f d ds ≤ most)
-  order-most done b m = (m, m)
-  order-most (next {a = begin v to} e o) b m = let r = order-most o (b .1) (event-most e (b .0) m) in ((m, r .0), r .1)
-  order-most (next {a = finish v} e o) b m =
-      let k = under-load f (end-under d e) in
-      let r = order-most o b (omega arith) in
-      ((m, r .0), r .1)
 
 -- at a step's first moment every VM counts on its place
 counts-first : (d v p : ℕ) (moves : Step) → countsOn d (cell v p (phaseOf moves v)) ≡ eqb p d
@@ -257,7 +254,7 @@ left-from f d places (cell w p x ∷ cs) v (suc n) s e h =
     rw (counts-first d v (placeOf places v) [], counts-left d w p x (and-left (rests (cell w p x)) (all rests cs) s), here, head, load-is)
 
 -- so a step starts with the load that the one before it left
-first-rest : (f : ℕ → ℕ) (d : ℕ) (room : Room) (places : Placement) (moves : Step) → load f d (firstMoment room places moves) ≡ load f d (atRest room places)
+pub first-rest : (f : ℕ → ℕ) (d : ℕ) (room : Room) (places : Placement) (moves : Step) → load f d (firstMoment room places moves) ≡ load f d (atRest room places)
 unfolding firstMoment
 first-rest f d room places moves = first-load f d places moves 0 (length (room .vms))
 
@@ -269,17 +266,7 @@ left-load f d room places moves {end} o s =
     (numbers-onward (onward-order (onward-self (firstMoment room places moves)) o) ∙ numbers-first places moves 0 (length (room .vms)))
     (λ i. let k : 0 + i ≡ i = omega arith in rw k refl)
 
--- a run whose begins keep a bound on a node keeps it at every moment
-pub run-most : (f : ℕ → ℕ) (d most : ℕ) {room : Room} {places last : Placement} {steps : List Step} (run : Run room places steps last) →
-    EachBeginOfRun (Room-for f d most) run → load f d (firstMoment room places []) ≤ most → EachMomentOfRun (λ cs. load f d cs ≤ most) run
-unfolding firstMoment
-run-most f d most stop b m = m
-run-most f d most {room} {places} (step {moves = moves} {end = end} o s r) b m =
-    let start : load f d (firstMoment room places moves) ≤ most = rw (first-load f d places moves 0 (length (room .vms))) m in
-    let k = order-most f d most o (b .0) start in
-    (k .0, run-most f d most r (b .1) (rw (left-load f d room places moves o s) (k .1)))
-
--- ---- the same from one moment to the next
+-- ---- from one moment to the next
 
 order-changes : (f : ℕ → ℕ) (d most : ℕ) {cs ds : Moment} (o : Order cs ds) → EachBegin (Room-for f d most) o →
     EachChange (λ xs ys. load f d xs ≤ most → load f d ys ≤ most) o
@@ -303,16 +290,17 @@ each-change-run P Q h stop p = tt
 each-change-run P Q h {room} (step {places = places} {moves = moves} {end = end} o s r) p =
     (h (atRest room places) (firstMoment room places moves) (p .0), each-change P Q h o (p .1), h end (atRest room (placesLeft end)) (p .2), each-change-run P Q h r (p .3))
 
+-- what every change keeps, and the start has, every moment has
+kept-moments : (Q : Moment → Type 0) {cs ds : Moment} (o : Order cs ds) → EachChange (λ xs ys. Q xs → Q ys) o → Q cs → EachMoment Q o × Q ds
+kept-moments Q done c q = (q, q)
+kept-moments Q (next e o) c q = let r = kept-moments Q o (c .1) (c .0 q) in ((q, r .0), r .1)
+
+pub kept-moments-run : (Q : Moment → Type 0) {room : Room} {places last : Placement} {steps : List Step} (run : Run room places steps last) →
+    EachChangeOfRun (λ xs ys. Q xs → Q ys) run → Q (atRest room places) → EachMomentOfRun Q run
+kept-moments-run Q stop c q = q
+kept-moments-run Q (step o s r) c q = let k = kept-moments Q o (c .1) (c .0 q) in (k .0, kept-moments-run Q r (c .3) (c .2 (k .1)))
+
 -- ---- no run of sound steps takes a node past what it has
-
-each-moment : (P Q : Moment → Type 0) → ((cs : Moment) → P cs → Q cs) → {cs ds : Moment} (o : Order cs ds) → EachMoment P o → EachMoment Q o
-each-moment P Q h (done {cs = cs}) p = h cs p
-each-moment P Q h (next {cs = cs} e o) p = (h cs (p .0), each-moment P Q h o (p .1))
-
-each-moment-run : (P Q : Moment → Type 0) → ((cs : Moment) → P cs → Q cs) → {room : Room} {places last : Placement} {steps : List Step}
-    (run : Run room places steps last) → EachMomentOfRun P run → EachMomentOfRun Q run
-each-moment-run P Q h {room} (stop {places = places}) p = h (atRest room places) p
-each-moment-run P Q h (step o s r) p = (each-moment P Q h o (p .0), each-moment-run P Q h r (p .1))
 
 -- what a VM that fits says of each number
 module _ (room : Room) (cs : Moment) (v d : ℕ) (e : fits room cs v d ≡ true) where
@@ -340,33 +328,31 @@ module _ (room : Room) (cs : Moment) (v d : ℕ) (e : fits room cs v d ≡ true)
   room-cpu : (k : ℕ) → Room-for (cpuIn room) k (nodeOf room k .cpu) cs v d
   room-cpu k q = let m = fits-cpu in rw (← q) (omega (arith, cpu-load room d cs))
 
-pub stays-within : (room : Room) (places : Placement) (steps : List Step) → soundAll room places steps ≡ true → length places ≡ length (room .vms) →
-    StaysWithin room places steps
-stays-within room places steps e l = record {
-  memory = λ last run d m.
-      each-moment-run (λ cs. load (memoryIn room) d cs ≤ nodeOf room d .memory) (λ cs. tallyAt room d cs .memory ≤ nodeOf room d .memory)
-      (λ cs h. omega (arith, memory-load room d cs)) run
-      (run-most (memoryIn room) d (nodeOf room d .memory) run
-      (each-run (Obeys room) (Room-for (memoryIn room) d (nodeOf room d .memory)) (λ cs v k p. room-memory room cs v k (p .may .fit) d) run (run-obeys e l run))
-      (omega (arith, memory-load room d (firstMoment room places []))));
-  cpu = λ last run d m.
-      each-moment-run (λ cs. load (cpuIn room) d cs ≤ nodeOf room d .cpu) (λ cs. tallyAt room d cs .cpu ≤ nodeOf room d .cpu)
-      (λ cs h. omega (arith, cpu-load room d cs)) run
-      (run-most (cpuIn room) d (nodeOf room d .cpu) run
-      (each-run (Obeys room) (Room-for (cpuIn room) d (nodeOf room d .cpu)) (λ cs v k p. room-cpu room cs v k (p .may .fit) d) run (run-obeys e l run))
-      (omega (arith, cpu-load room d (firstMoment room places []))));
-  arrivals = λ last run.
-      each-run (Obeys room) (λ cs v d. (fits room cs v d ≡ true) × (within (nodeOf room d) (tallyAt room d cs) ≡ true)) (λ cs v d p. (p .may .fit, fits-within room cs v d (p .may .fit))) run (run-obeys e l run);
-  memory-stays = λ last run d.
+module _ (room : Room) (places : Placement) (steps : List Step) (e : soundAll room places steps ≡ true) (l : length places ≡ length (room .vms)) where
+  memory-stays : (last : Placement) (run : Run room places steps last) (d : ℕ) →
+      EachChangeOfRun (λ cs ds. tallyAt room d cs .memory ≤ nodeOf room d .memory → tallyAt room d ds .memory ≤ nodeOf room d .memory) run
+  memory-stays last run d =
       each-change-run (λ cs ds. load (memoryIn room) d cs ≤ nodeOf room d .memory → load (memoryIn room) d ds ≤ nodeOf room d .memory)
       (λ cs ds. tallyAt room d cs .memory ≤ nodeOf room d .memory → tallyAt room d ds .memory ≤ nodeOf room d .memory)
       (λ cs ds h m. rw (memory-load room d ds) (h (rw (memory-load room d cs) at m))) run
       (run-changes (memoryIn room) d (nodeOf room d .memory) run
-      (each-run (Obeys room) (Room-for (memoryIn room) d (nodeOf room d .memory)) (λ cs v k p. room-memory room cs v k (p .may .fit) d) run (run-obeys e l run)));
-  cpu-stays = λ last run d.
+      (each-run (Obeys room) (Room-for (memoryIn room) d (nodeOf room d .memory)) (λ cs v k p. room-memory room cs v k (p .may .fit) d) run (run-obeys e l run)))
+
+  cpu-stays : (last : Placement) (run : Run room places steps last) (d : ℕ) →
+      EachChangeOfRun (λ cs ds. tallyAt room d cs .cpu ≤ nodeOf room d .cpu → tallyAt room d ds .cpu ≤ nodeOf room d .cpu) run
+  cpu-stays last run d =
       each-change-run (λ cs ds. load (cpuIn room) d cs ≤ nodeOf room d .cpu → load (cpuIn room) d ds ≤ nodeOf room d .cpu)
       (λ cs ds. tallyAt room d cs .cpu ≤ nodeOf room d .cpu → tallyAt room d ds .cpu ≤ nodeOf room d .cpu)
       (λ cs ds h m. rw (cpu-load room d ds) (h (rw (cpu-load room d cs) at m))) run
       (run-changes (cpuIn room) d (nodeOf room d .cpu) run
-      (each-run (Obeys room) (Room-for (cpuIn room) d (nodeOf room d .cpu)) (λ cs v k p. room-cpu room cs v k (p .may .fit) d) run (run-obeys e l run)));
-}
+      (each-run (Obeys room) (Room-for (cpuIn room) d (nodeOf room d .cpu)) (λ cs v k p. room-cpu room cs v k (p .may .fit) d) run (run-obeys e l run)))
+
+  pub stays-within : StaysWithin room places steps
+  stays-within = record {
+    memory = λ last run d m. kept-moments-run (λ cs. tallyAt room d cs .memory ≤ nodeOf room d .memory) run (memory-stays last run d) m;
+    cpu = λ last run d m. kept-moments-run (λ cs. tallyAt room d cs .cpu ≤ nodeOf room d .cpu) run (cpu-stays last run d) m;
+    memory-stays = memory-stays;
+    cpu-stays = cpu-stays;
+    arrivals = λ last run.
+        each-run (Obeys room) (λ cs v d. (fits room cs v d ≡ true) × (within (nodeOf room d) (tallyAt room d cs) ≡ true)) (λ cs v d p. (p .may .fit, fits-within room cs v d (p .may .fit))) run (run-obeys e l run);
+  }

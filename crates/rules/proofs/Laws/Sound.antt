@@ -25,12 +25,16 @@ abbrev found : Bool → Bool → Bool → Bool → StepCheck
 found n p f u = pick (not n) (Faulty Misnamed) (pick (not p) (Faulty Forbidden) (pick (not f) (Faulty Misfit) (pick (not u) (Faulty Mate) Sound)))
 
 -- the tests that a fault tells
-pub record IsMisfit (n p f : Bool) : Type 0 where
+pub record TestsForbidden (n p : Bool) : Type 0 where
+  pub well-named : n ≡ true
+  pub forbidden : p ≡ false
+
+pub record TestsMisfit (n p f : Bool) : Type 0 where
   pub well-named : n ≡ true
   pub permitted : p ≡ true
   pub misfit : f ≡ false
 
-pub record IsMate (n p f u : Bool) : Type 0 where
+pub record TestsMate (n p f u : Bool) : Type 0 where
   pub well-named : n ≡ true
   pub permitted : p ≡ true
   pub fit : f ≡ true
@@ -43,14 +47,28 @@ none-found true true false u e = never (cc)
 none-found true true true false e = never (cc)
 none-found true true true true e = refl
 
-misfit-found : (n p f u : Bool) → found n p f u ≡ Faulty Misfit → IsMisfit n p f
+misnamed-found : (n p f u : Bool) → found n p f u ≡ Faulty Misnamed → n ≡ false
+misnamed-found false p f u e = refl
+misnamed-found true false f u e = never (cc)
+misnamed-found true true false u e = never (cc)
+misnamed-found true true true false e = never (cc)
+misnamed-found true true true true e = never (cc)
+
+forbidden-found : (n p f u : Bool) → found n p f u ≡ Faulty Forbidden → TestsForbidden n p
+forbidden-found false p f u e = never (cc)
+forbidden-found true false f u e = record { well-named = refl; forbidden = refl }
+forbidden-found true true false u e = never (cc)
+forbidden-found true true true false e = never (cc)
+forbidden-found true true true true e = never (cc)
+
+misfit-found : (n p f u : Bool) → found n p f u ≡ Faulty Misfit → TestsMisfit n p f
 misfit-found false p f u e = never (cc)
 misfit-found true false f u e = never (cc)
 misfit-found true true false u e = record { well-named = refl; permitted = refl; misfit = refl }
 misfit-found true true true false e = never (cc)
 misfit-found true true true true e = never (cc)
 
-mate-found : (n p f u : Bool) → found n p f u ≡ Faulty Mate → IsMate n p f u
+mate-found : (n p f u : Bool) → found n p f u ≡ Faulty Mate → TestsMate n p f u
 mate-found false p f u e = never (cc)
 mate-found true false f u e = never (cc)
 mate-found true true false u e = never (cc)
@@ -90,14 +108,28 @@ module _ (room : Room) (places : Placement) (step : Step) where
     none-found (named room places 0 step) (permitted room step) (fitting room places step) (unmet room places step),
   )
 
-  pub misfit-check : (stepCheck room places step ≡ Faulty Misfit) ↔ IsMisfit (named room places 0 step) (permitted room step) (fitting room places step)
+  pub misnamed-check : (stepCheck room places step ≡ Faulty Misnamed) ↔ (named room places 0 step ≡ false)
+  unfolding stepCheck
+  misnamed-check = (
+    misnamed-found (named room places 0 step) (permitted room step) (fitting room places step) (unmet room places step),
+    λ t. simp t,
+  )
+
+  pub forbidden-check : (stepCheck room places step ≡ Faulty Forbidden) ↔ TestsForbidden (named room places 0 step) (permitted room step)
+  unfolding stepCheck
+  forbidden-check = (
+    forbidden-found (named room places 0 step) (permitted room step) (fitting room places step) (unmet room places step),
+    λ t. simp (t .well-named, t .forbidden),
+  )
+
+  pub misfit-check : (stepCheck room places step ≡ Faulty Misfit) ↔ TestsMisfit (named room places 0 step) (permitted room step) (fitting room places step)
   unfolding stepCheck
   misfit-check = (
     misfit-found (named room places 0 step) (permitted room step) (fitting room places step) (unmet room places step),
     λ t. simp (t .well-named, t .permitted, t .misfit),
   )
 
-  pub mate-check : (stepCheck room places step ≡ Faulty Mate) ↔ IsMate (named room places 0 step) (permitted room step) (fitting room places step) (unmet room places step)
+  pub mate-check : (stepCheck room places step ≡ Faulty Mate) ↔ TestsMate (named room places 0 step) (permitted room step) (fitting room places step) (unmet room places step)
   unfolding stepCheck
   mate-check = (
     mate-found (named room places 0 step) (permitted room step) (fitting room places step) (unmet room places step),

@@ -1,44 +1,37 @@
 -- Laws on the target: the passes for refusals 8, 9 and 19, and that they decide what the definitions say.
-use Prim.Native.Nat.{ℕ, zero, suc, _+_, _-_, _*_, _≤_, _<_, _^_}
-use mathlib.Core.Bool.{Bool, true, false, not, _&&_, _||_, and-false, or-true, or-false, and-true}
-use mathlib.Core.List.{List, [], _∷_, map}
-use mathlib.Core.Logic.{by-cases}
+use Prim.Native.Nat.{ℕ, zero, suc, _+_, _-_, _≤_, _<_, _^_}
+use mathlib.Core.Bool.{Bool, true, false, _&&_, _||_}
+use mathlib.Core.List.{List, [], _∷_}
 use mathlib.Core.Path.{_≡_, refl, sym, ap, _∙_}
-use native.Mathlib.Decide.{ℕ-discrete}
 use native.Mathlib.Nat.{sub-zero}
 use native.Mathlib.Numerals.{add-one}
 use native.Mathlib.Omega.{arith}
-use lib.ListN.{length, getD, set, drop, replicate, length-replicate, getD-replicate, drop-of-length-le, length-drop}
+use lib.ListN.{length, getD, drop, replicate, drop-of-length-le, length-drop}
 use lib.Seq.{drop-cons, length-take-le}
-use lib.Dec.{ltb, leb, eqb}
+use lib.Dec.{eqb}
 use mir.Syntax.{w64}
 use mir.Val.{Fits}
-use borrow.Author.Tests.{lt-ltb, eq-eqb, ne-eqb, ltb-true, eqb-true, eqb-false}
-use Rattle.records.specs.Base.{pick, all}
+use borrow.Author.Tests.{eq-eqb, ne-eqb}
+use Rattle.records.specs.Base.{all}
 use Rattle.records.specs.Bytes.{byteAt}
-use Rattle.records.specs.Room.{Constraint, ban, fence, spread, latency, kindOf, vmsOf, nodesOf, groupsOf, has, rises, listOk, Room, nodeOf, vmOf, roomOf, nodeCount, vmCount, partAt, partsFrom, constraintsStart, constraintCount, nodesAt, nodesEnd, groupsFrom, groupsEnd, othersAt, constraintOf, constraintOk, filled, clusterCheck}
-use Rattle.records.specs.Plan.{Step}
-use Rattle.records.specs.Inner.{Below, Parts}
+use Rattle.records.specs.Room.{Constraint, ban, fence, spread, latency, kindOf, vmsOf, nodesOf, groupsOf, listOk, nodeOf, vmOf, roomOf, nodeCount, vmCount, nodesAt, nodesEnd, groupsFrom, othersAt, constraintOf, clusterCheck}
+use Rattle.records.specs.Inner.{Below}
 use Rattle.records.specs.declared.constraints.Kind.{Kind}
 use Rattle.records.specs.declared.constraints.Kind.the-variants.{Ban, Fence, Spread, Latency}
 use Rattle.records.specs.declared.faults.ClusterCheck.the-variants.{Whole}
-use Rattle.records.proofs.Laws.Bools.{and-left, and-right, and-both, all-same, all-at, all-and, all-true}
+use Rattle.records.proofs.Laws.Bools.{and-left, and-right}
 use Rattle.records.proofs.Laws.Lists.{list-below}
-use Rattle.records.proofs.Laws.Cluster.{nodes-most, vms-most, vms-count, nodes-count}
-use Rattle.records.proofs.Laws.Constraints.{groups-last, groups-read, groups-count, groups-length, groups-next, group-within}
-use Rattle.records.proofs.Laws.Walk.{walk-filled, walk-ok, nodes-sound, groups-sound}
-use Rattle.rules.specs.Moments.{Placement, placeOf, targetOf, Moment, within, emptyTally, tallyAt, cellsFrom, firstMoment, begun, allRunning, phaseOf}
+use Rattle.records.proofs.Laws.Cluster.{nodes-most, vms-count, nodes-count}
+use Rattle.records.proofs.Laws.Constraints.{groups-last, groups-read, groups-length, groups-next, group-within}
+use Rattle.rules.specs.Moments.{Placement, placeOf, targetOf, within, emptyTally, tallyAt, cellsFrom, firstMoment, begun, allRunning, phaseOf}
 use Rattle.rules.specs.Orders.{some}
-use Rattle.rules.specs.Rules.{from, fitsAll, spreadOut, keeps, targetCheck, named}
+use Rattle.rules.specs.Rules.{from, fitsAll, named}
 use Rattle.rules.specs.Verdict.{home}
-use Rattle.rules.specs.Inner.{held, Placed, Holds, destsFrom, busyFrom, Ready, Loads, Low, Formed, Nodes, Grouping, stopped, goUnmet, fitsUpTo, homeFrom, clearOf, groupHolds, keepsIn}
-use Rattle.rules.specs.declared.faults.TargetFault.the-variants.{Overfull, Broken}
-use Rattle.rules.specs.declared.faults.TargetCheck.the-variants.{Good, Bad}
+use Rattle.rules.specs.Inner.{held, Placed, destsFrom, busyFrom, Ready, Loads, Low, Formed, Nodes, Grouping, stopped, goUnmet, fitsUpTo, homeFrom, clearOf, groupHolds, keepsIn}
 use Rattle.rules.specs.declared.tally.Tally.{Tally}
 use Rattle.rules.proofs.Laws.Places.{target-at}
+use Rattle.rules.proofs.Laws.Loads.{loads-each}
 use Rattle.rules.proofs.Laws.Fit.{named-ready, running-is, first-is, held-at}
-use Rattle.rules.proofs.Laws.Sound.{all-more}
-use Rattle.rules.proofs.Laws.Walks.{walk-not, walk-more, walk-done, walk-all}
 
 -- ---- counting up: a test of all numbers from d on
 
@@ -104,7 +97,7 @@ unfolding fitsUpTo fitsAll
 rest-fits s places dests sums r e l f w =
     f ∙ ap (λ (n : ℕ). all (λ k. within (nodeOf (roomOf s) k) (getD sums k emptyTally)) (from 0 n)) (sym (nodes-count s)) ∙
     all-from-same (λ k. within (nodeOf (roomOf s) k) (getD sums k emptyTally)) (λ d. within (nodeOf (roomOf s) d) (tallyAt (roomOf s) d (firstMoment (roomOf s) (held s places) [])))
-    0 (length (roomOf s .nodes)) 64 (λ k h. ap (within (nodeOf (roomOf s) k)) (l .each k h ∙ ap (tallyAt (roomOf s) k) moment)) (rw (nodes-count s) (let m = nodes-most s w in omega arith))
+    0 (length (roomOf s .nodes)) 64 (λ k h. ap (within (nodeOf (roomOf s) k)) (loads-each s places dests sums l k (omega arith) ∙ ap (tallyAt (roomOf s) k) moment)) (rw (nodes-count s) (let m = nodes-most s w in omega arith))
   where
     moment : busyFrom places dests 0 (vmCount s) ≡ firstMoment (roomOf s) (held s places) []
     moment =

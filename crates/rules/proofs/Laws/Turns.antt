@@ -1,31 +1,30 @@
 -- Laws on the verdict: the turns over the steps, and the checking order around them.
-use Prim.Native.Nat.{ℕ, zero, suc, _+_, _-_, _*_, _≤_, _<_, _^_}
-use mathlib.Core.Bool.{Bool, true, false, not, _&&_}
+use Prim.Native.Nat.{ℕ, suc, _+_, _-_, _*_, _≤_, _<_, _^_}
+use mathlib.Core.Bool.{Bool, true, false}
 use mathlib.Core.List.{List, [], _∷_}
 use mathlib.Core.Logic.{by-cases}
 use mathlib.Core.Path.{_≡_, refl, sym, ap, _∙_}
 use native.Mathlib.Decide.{ℕ-discrete, decLt}
 use native.Mathlib.Numerals.{add-one}
 use native.Mathlib.Omega.{arith}
-use lib.ListN.{length, getD, set, take, drop}
+use lib.ListN.{length, getD, set}
 use lib.Seq.{take-set-lt, getD-set-same, getD-set-other, set-out}
 use mir.Syntax.{w64}
 use mir.Val.{Fits}
-use Rattle.records.specs.Base.{pick, all}
+use Rattle.records.specs.Base.{pick}
+use Rattle.records.specs.Bytes.{AreBytes}
 use Rattle.records.specs.Room.{Room, roomOf, nodeCount, vmCount, clusterCheck}
-use Rattle.records.specs.Plan.{Move, Step, moveOf, stepAt, stepEnd, stepCount, stepsFrom, stepsOf, planCheck}
-use Rattle.records.specs.Inner.{Steps}
+use Rattle.records.specs.Plan.{Step, stepAt, stepEnd, stepCount, stepsFrom, stepsOf, planCheck}
 use Rattle.records.specs.declared.faults.ClusterCheck.{ClusterCheck}
 use Rattle.records.specs.declared.faults.ClusterFault.{ClusterFault}
 use Rattle.records.specs.declared.faults.PlanCheck.{PlanCheck}
 use Rattle.records.specs.declared.faults.PlanFault.{PlanFault}
-use Rattle.records.proofs.Laws.Bools.{and-left, and-right}
 use Rattle.records.proofs.Laws.Steps.{steps-cons, steps-next, step-within, steps-start, steps-most}
 use Rattle.rules.specs.Moments.{Placement, currentOf, after}
 use Rattle.rules.specs.Rules.{named, targetCheck, stepCheck}
 use Rattle.rules.specs.Cost.{costOf}
 use Rattle.rules.specs.Verdict.{home, onCluster, onTarget, onPlan, onStep, stepsVerdict, planVerdict, verdictOf, faultNumber, faultStep, packed}
-use Rattle.rules.specs.Inner.{held, Placed, Holds, Walking, Given, stepOf}
+use Rattle.rules.specs.Inner.{held, Placed, arrayOf, Walking, stepOf}
 use Rattle.rules.specs.declared.faults.TargetFault.{TargetFault}
 use Rattle.rules.specs.declared.faults.TargetCheck.{TargetCheck}
 use Rattle.rules.specs.declared.faults.StepFault.{StepFault}
@@ -34,7 +33,9 @@ use Rattle.rules.specs.declared.faults.Fault.{Fault}
 use Rattle.rules.specs.declared.faults.Verdict.{Verdict}
 use Rattle.rules.proofs.Laws.Fit.{named-vm, named-to, named-rest}
 use Rattle.rules.proofs.Laws.Sound.{sound-none, sound-named}
-use Rattle.rules.proofs.Laws.Verdicts.{checked-holds}
+use Rattle.rules.proofs.Laws.Places.{current-holds}
+use Rattle.rules.proofs.Laws.Contract.{contract}
+use Rattle.rules.proofs.Laws.Verdicts.{step-most}
 use Rattle.rules.specs.Promises.{Checked}
 
 -- ---- a placement in an array, after a step
@@ -89,9 +90,9 @@ module _ (s plan places : List ℕ) (at left number : ℕ) (w : Walking s plan p
       sym (due-cons s plan places number (stepAt plan at) (stepsFrom plan (stepEnd plan at) (left - 1))) ∙
       ap (due s plan places number) (sym (steps-cons plan at left (w .steps) z)) ∙ w .verdict
 
-  pub turn-faulty : (f : StepFault) → found ≡ StepCheck.Faulty f → Given (Verdict.Refused (Fault.Step f number)) (planVerdict (roomOf s) (stepsOf plan))
+  pub turn-faulty : (f : StepFault) → found ≡ StepCheck.Faulty f → Verdict.Refused (Fault.Step f number) ≡ planVerdict (roomOf s) (stepsOf plan)
   unfolding onStep
-  turn-faulty f q = let c = w .count in record { is = simp q at turn; most = omega arith; below = omega arith }
+  turn-faulty f q = simp q at turn
 
   module _ (q : found ≡ StepCheck.Sound) (next : List ℕ) (end : ℕ) (a : next ≡ after places (stepAt plan at)) (b : end ≡ stepEnd plan at) where
     name : named (roomOf s) (held s places) 0 (stepAt plan at) ≡ true
@@ -122,9 +123,11 @@ steps-of : (plan : List ℕ) → stepsFrom plan 7 (stepCount plan) ≡ stepsOf p
 unfolding stepsOf
 steps-of plan = refl
 
-pub walking-start : (s plan places : List ℕ) (left : ℕ) → Holds s places (currentOf (roomOf s)) → left ≡ stepCount plan → planCheck plan ≡ PlanCheck.Whole → Walking s plan places 7 left 1
+pub walking-start : (s plan places : List ℕ) (left : ℕ) → places ≡ arrayOf (currentOf (roomOf s)) → left ≡ stepCount plan → clusterCheck s ≡ ClusterCheck.Whole →
+    planCheck plan ≡ PlanCheck.Whole → Walking s plan places 7 left 1
 unfolding planVerdict
-walking-start s plan places left h q p =
+walking-start s plan places left e q w p =
+    let h = current-holds s places e w in
     let m = steps-most plan p in
     record {
       steps = rw q (steps-start plan p);
@@ -139,38 +142,38 @@ module _ (s plan places : List ℕ) (at left number : ℕ) (w : Walking s plan p
   unfolding stepsVerdict stepsFrom
   last = let n : left ≡ 0 = omega arith in rw e (rw n at (w .verdict))
 
-  pub end-home : (cost : ℕ) → cost ≡ costOf (roomOf s) (stepsOf plan) → cost < 2 ^ 43 → ok ≡ true → Given (Verdict.Accepted cost) (planVerdict (roomOf s) (stepsOf plan))
-  end-home cost c b o = record { is = ap Verdict.Accepted c ∙ (simp o at last); most = omega arith; below = omega arith }
+  pub end-home : (cost : ℕ) → cost ≡ costOf (roomOf s) (stepsOf plan) → ok ≡ true → Verdict.Accepted cost ≡ planVerdict (roomOf s) (stepsOf plan)
+  end-home cost c o = ap Verdict.Accepted c ∙ (simp o at last)
 
-  pub end-away : ok ≡ false → Given (Verdict.Refused Fault.OffTarget) (planVerdict (roomOf s) (stepsOf plan))
-  end-away o = record { is = simp o at last; most = omega arith; below = omega arith }
+  pub end-away : ok ≡ false → Verdict.Refused Fault.OffTarget ≡ planVerdict (roomOf s) (stepsOf plan)
+  end-away o = simp o at last
 
 -- ---- the checking order around them
 
 module _ (rest : Verdict) where
-  pub plan-damaged : (found check : PlanCheck) (f : PlanFault) → found ≡ check → found ≡ PlanCheck.Damaged f → Given (Verdict.Refused (Fault.Plan f)) (onPlan check rest)
+  pub plan-damaged : (found check : PlanCheck) (f : PlanFault) → found ≡ check → found ≡ PlanCheck.Damaged f → Verdict.Refused (Fault.Plan f) ≡ onPlan check rest
   unfolding onPlan
-  plan-damaged found check f e q = record { is = rw (sym e ∙ q); most = omega arith; below = omega arith }
+  plan-damaged found check f e q = rw (sym e ∙ q)
 
-  pub plan-fine : (found check : PlanCheck) (r : Verdict) → found ≡ check → Given r rest → found ≡ PlanCheck.Whole → Given r (onPlan check rest)
+  pub plan-fine : (found check : PlanCheck) (r : Verdict) → found ≡ check → r ≡ rest → found ≡ PlanCheck.Whole → r ≡ onPlan check rest
   unfolding onPlan
   plan-fine found check r e g q = rw (sym e ∙ q) g
 
-  pub target-fault : (found check : TargetCheck) (f : TargetFault) → found ≡ check → found ≡ TargetCheck.Bad f → Given (Verdict.Refused (Fault.Target f)) (onTarget check rest)
+  pub target-fault : (found check : TargetCheck) (f : TargetFault) → found ≡ check → found ≡ TargetCheck.Bad f → Verdict.Refused (Fault.Target f) ≡ onTarget check rest
   unfolding onTarget
-  target-fault found check f e q = record { is = rw (sym e ∙ q); most = omega arith; below = omega arith }
+  target-fault found check f e q = rw (sym e ∙ q)
 
-  pub target-fine : (found check : TargetCheck) (r : Verdict) → found ≡ check → Given r rest → found ≡ TargetCheck.Good → Given r (onTarget check rest)
+  pub target-fine : (found check : TargetCheck) (r : Verdict) → found ≡ check → r ≡ rest → found ≡ TargetCheck.Good → r ≡ onTarget check rest
   unfolding onTarget
   target-fine found check r e g q = rw (sym e ∙ q) g
 
 module _ (cluster plan : List ℕ) (found : ClusterCheck) (e : found ≡ clusterCheck cluster) where
-  pub cluster-damaged : (f : ClusterFault) → found ≡ ClusterCheck.Damaged f → Given (Verdict.Refused (Fault.Cluster f)) (verdictOf cluster plan)
+  pub cluster-damaged : (f : ClusterFault) → found ≡ ClusterCheck.Damaged f → Verdict.Refused (Fault.Cluster f) ≡ verdictOf cluster plan
   unfolding verdictOf onCluster
-  cluster-damaged f q = record { is = rw (sym e ∙ q); most = omega arith; below = omega arith }
+  cluster-damaged f q = rw (sym e ∙ q)
 
-  pub cluster-fine : (r : Verdict) → Given r (onTarget (targetCheck (roomOf cluster)) (onPlan (planCheck plan) (planVerdict (roomOf cluster) (stepsOf plan)))) → found ≡ ClusterCheck.Whole →
-      Given r (verdictOf cluster plan)
+  pub cluster-fine : (r : Verdict) → r ≡ onTarget (targetCheck (roomOf cluster)) (onPlan (planCheck plan) (planVerdict (roomOf cluster) (stepsOf plan))) → found ≡ ClusterCheck.Whole →
+      r ≡ verdictOf cluster plan
   unfolding verdictOf onCluster
   cluster-fine r g q = rw (sym e ∙ q) g
 
@@ -189,6 +192,10 @@ pack-refused v f number step e a b = rw (e, a, b)
 pub pack-fits : (v : Verdict) (f : Fault) (number step : ℕ) → v ≡ Verdict.Refused f → number < 256 → step ≡ faultStep f → stepOf v ≤ 512 → Fits w64 (2 ^ 63 + number * 65536 + step)
 pack-fits v f number step e a b m = let k : faultStep f ≤ 512 = rw e at m in record { fits = omega arith }
 
-pub checked-packed : (cluster plan : List ℕ) (v : Verdict) (r : ℕ) → Given v (verdictOf cluster plan) → r ≡ packed v → Checked cluster plan r
-checked-packed cluster plan v r g e =
-    checked-holds cluster plan r (e ∙ ap packed (g .is)) (λ cost a. let q : v ≡ Verdict.Accepted cost = g .is ∙ a in rw q at (g .below))
+-- the verdict on two records packs
+pub verdict-packs : (cluster plan : List ℕ) (v : Verdict) → v ≡ verdictOf cluster plan → stepOf v ≤ 512
+verdict-packs cluster plan (Verdict.Accepted cost) e = omega arith
+verdict-packs cluster plan (Verdict.Refused f) e = step-most cluster plan f (sym e)
+
+pub checked-packed : (cluster plan : List ℕ) (v : Verdict) (r : ℕ) → v ≡ verdictOf cluster plan → r ≡ packed v → AreBytes cluster → Checked cluster plan r
+checked-packed cluster plan v r g e b = contract cluster plan b r (e ∙ ap packed g)

@@ -1,30 +1,34 @@
 -- Laws on the verdict: the promises of a check, over every order and every run.
-use Prim.Native.Nat.{ℕ, zero, suc, _+_, _<_, _^_}
-use mathlib.Core.Bool.{Bool, true, false, false≢true}
+use Prim.Native.Nat.{ℕ, zero, suc, _+_, _≤_, _<_}
+use mathlib.Core.Bool.{Bool, true, false, _&&_, false≢true}
 use mathlib.Core.List.{List, [], _∷_}
-use mathlib.Core.Logic.{_↔_, Iff·trans}
+use mathlib.Core.Logic.{_↔_, by-cases}
 use mathlib.Core.Path.{_≡_, refl, sym, ap, _∙_}
+use native.Mathlib.Decide.{ℕ-discrete}
 use native.Mathlib.Omega.{arith}
 use lib.ListN.{length, getD, take, length-map}
-use Rattle.records.specs.Base.{pick}
+use lib.Dec.{eqb}
+use borrow.Author.Tests.{eqb-true, eqb-false}
+use Rattle.records.specs.Base.{pick, all}
 use Rattle.records.specs.Room.{Room, roomOf, clusterCheck}
-use Rattle.records.specs.Plan.{Step, stepsOf, planCheck}
+use Rattle.records.specs.Plan.{Step, stepCount, stepsOf, planCheck}
 use Rattle.records.specs.declared.faults.ClusterCheck.{ClusterCheck}
 use Rattle.records.specs.declared.faults.PlanCheck.{PlanCheck}
 use Rattle.records.proofs.Laws.Bools.{and-left, and-right, and-both}
-use Rattle.rules.specs.Moments.{Placement, currentOf, after}
-use Rattle.rules.specs.Rules.{targetCheck, permitted, fitting, stepCheck, soundStep}
+use Rattle.records.proofs.Laws.Steps.{steps-length, steps-most}
+use Rattle.rules.specs.Moments.{Placement, placeOf, currentOf, targetOf, after}
+use Rattle.rules.specs.Rules.{from, targetCheck, fitting, stepCheck, soundStep}
 use Rattle.rules.specs.Cost.{costOf}
-use Rattle.rules.specs.Verdict.{home, onCluster, onTarget, onPlan, onStep, stepsVerdict, planVerdict, verdictOf, packed}
-use Rattle.rules.specs.Promises.{afterAll, namedAll, soundAll, Shaped, EveryRun, MisfitAt, MateAt, StaysWithin, Checked}
+use Rattle.rules.specs.Verdict.{home, onCluster, onTarget, onPlan, onStep, stepsVerdict, planVerdict, verdictOf, faultStep}
+use Rattle.rules.specs.Promises.{afterAll, namedAll, soundAll, Shaped, EveryRun, FaultNames, FaultDestination, FaultFit, FaultMate, FirstAtFault, EndsAway}
 use Rattle.rules.specs.declared.faults.TargetCheck.{TargetCheck}
 use Rattle.rules.specs.declared.faults.StepFault.{StepFault}
 use Rattle.rules.specs.declared.faults.StepCheck.{StepCheck}
 use Rattle.rules.specs.declared.faults.Fault.{Fault}
 use Rattle.rules.specs.declared.faults.Verdict.{Verdict}
 use Rattle.rules.proofs.Laws.Orders.{never}
-use Rattle.rules.proofs.Laws.Sound.{sound-none, misfit-check, mate-check}
-use Rattle.rules.proofs.Laws.Runs.{sound-all-named, misfit-exact, mate-exact, run-ends, some-run, run-obeys, runs-sound, stays-within}
+use Rattle.rules.proofs.Laws.Sound.{sound-none, misnamed-check, forbidden-check, misfit-check, mate-check}
+use Rattle.rules.proofs.Laws.Runs.{sound-all-named, misfit-exact, mate-exact, run-ends, some-run, run-obeys, runs-sound}
 
 -- ---- steps in turn
 
@@ -37,19 +41,28 @@ steps-good room good places number (step ∷ steps) e h =
     rw (sound-none room places step .0 (and-left (soundStep room places step) (soundAll room (after places step) steps) e))
     (steps-good room good (after places step) (suc number) steps (and-right (soundStep room places step) (soundAll room (after places step) steps) e) h)
 
--- and only those
-pub record Accepts (room : Room) (places : Placement) (steps : List Step) (cost given : ℕ) : Type 0 where
+-- and those that do not are refused for that
+pub steps-away : (room : Room) (good : Verdict) (places : Placement) (number : ℕ) (steps : List Step) → soundAll room places steps ≡ true →
+    home room (afterAll places steps) ≡ false → stepsVerdict room good places number steps ≡ Verdict.Refused Fault.OffTarget
+unfolding stepsVerdict soundAll afterAll onStep
+steps-away room good places number [] e h = rw h
+steps-away room good places number (step ∷ steps) e h =
+    rw (sound-none room places step .0 (and-left (soundStep room places step) (soundAll room (after places step) steps) e))
+    (steps-away room good (after places step) (suc number) steps (and-right (soundStep room places step) (soundAll room (after places step) steps) e) h)
+
+-- only those
+pub record StepsAccepted (room : Room) (places : Placement) (steps : List Step) (cost given : ℕ) : Type 0 where
   pub sound : soundAll room places steps ≡ true
   pub arrived : home room (afterAll places steps) ≡ true
   pub cost-is : given ≡ cost
 
 pub steps-accepted : (room : Room) (cost given : ℕ) (places : Placement) (number : ℕ) (steps : List Step) →
-    stepsVerdict room (Verdict.Accepted cost) places number steps ≡ Verdict.Accepted given → Accepts room places steps cost given
+    stepsVerdict room (Verdict.Accepted cost) places number steps ≡ Verdict.Accepted given → StepsAccepted room places steps cost given
 unfolding stepsVerdict soundAll afterAll onStep
 steps-accepted room cost given places number [] e = go (home room places) refl e
   where
     go : (b : Bool) → home room places ≡ b → pick b (Verdict.Accepted cost) (Verdict.Refused Fault.OffTarget) ≡ Verdict.Accepted given →
-        Accepts room places [] cost given
+        StepsAccepted room places [] cost given
     go true h e = record { sound = refl; arrived = h; cost-is = cc }
     go false h e = never (cc)
 steps-accepted room cost given places number (step ∷ steps) e =
@@ -59,26 +72,49 @@ steps-accepted room cost given places number (step ∷ steps) e =
     rest = stepsVerdict room (Verdict.Accepted cost) (after places step) (suc number) steps
 
     go : (c : StepCheck) → stepCheck room places step ≡ c → onStep c number rest ≡ Verdict.Accepted given →
-        (rest ≡ Verdict.Accepted given → Accepts room (after places step) steps cost given) → Accepts room places (step ∷ steps) cost given
+        (rest ≡ Verdict.Accepted given → StepsAccepted room (after places step) steps cost given) → StepsAccepted room places (step ∷ steps) cost given
     go StepCheck.Sound h e more =
         let a = more e in
         record { sound = and-both (sound-none room places step .1 h) (a .sound); arrived = a .arrived; cost-is = a .cost-is }
     go (StepCheck.Faulty fault) h e more = never (cc)
 
+pub record StepsAway (room : Room) (places : Placement) (steps : List Step) : Type 0 where
+  pub sound : soundAll room places steps ≡ true
+  pub missed : home room (afterAll places steps) ≡ false
+
+pub steps-off : (room : Room) (cost : ℕ) (places : Placement) (number : ℕ) (steps : List Step) →
+    stepsVerdict room (Verdict.Accepted cost) places number steps ≡ Verdict.Refused Fault.OffTarget → StepsAway room places steps
+unfolding stepsVerdict soundAll afterAll onStep
+steps-off room cost places number [] e = go (home room places) refl e
+  where
+    go : (b : Bool) → home room places ≡ b → pick b (Verdict.Accepted cost) (Verdict.Refused Fault.OffTarget) ≡ Verdict.Refused Fault.OffTarget → StepsAway room places []
+    go true h e = never (cc)
+    go false h e = record { sound = refl; missed = h }
+steps-off room cost places number (step ∷ steps) e =
+    go (stepCheck room places step) refl e (steps-off room cost (after places step) (suc number) steps)
+  where
+    rest : Verdict
+    rest = stepsVerdict room (Verdict.Accepted cost) (after places step) (suc number) steps
+
+    go : (c : StepCheck) → stepCheck room places step ≡ c → onStep c number rest ≡ Verdict.Refused Fault.OffTarget →
+        (rest ≡ Verdict.Refused Fault.OffTarget → StepsAway room (after places step) steps) → StepsAway room places (step ∷ steps)
+    go StepCheck.Sound h e more = let a = more e in record { sound = and-both (sound-none room places step .1 h) (a .sound); missed = a .missed }
+    go (StepCheck.Faulty fault) h e more = never (cc)
+
 -- a refusal for a step: the steps before it are sound, and it has that fault first
-pub record Refuses (room : Room) (places : Placement) (steps : List Step) (fault : StepFault) (n : ℕ) : Type 0 where
+pub record StepRefused (room : Room) (places : Placement) (steps : List Step) (fault : StepFault) (n : ℕ) : Type 0 where
   pub there : n < length steps
   pub earlier : soundAll room places (take n steps) ≡ true
   pub check : stepCheck room (afterAll places (take n steps)) (getD steps n []) ≡ StepCheck.Faulty fault
 
 pub steps-refused : (room : Room) (cost : ℕ) (fault : StepFault) (places : Placement) (number m : ℕ) (steps : List Step) →
     stepsVerdict room (Verdict.Accepted cost) places number steps ≡ Verdict.Refused (Fault.Step fault m) →
-    (n : ℕ) × (number + n ≡ m) × Refuses room places steps fault n
+    (n : ℕ) × (number + n ≡ m) × StepRefused room places steps fault n
 unfolding stepsVerdict soundAll afterAll onStep
 steps-refused room cost fault places number m [] e = go (home room places) e
   where
     go : (b : Bool) → pick b (Verdict.Accepted cost) (Verdict.Refused Fault.OffTarget) ≡ Verdict.Refused (Fault.Step fault m) →
-        (n : ℕ) × (number + n ≡ m) × Refuses room places [] fault n
+        (n : ℕ) × (number + n ≡ m) × StepRefused room places [] fault n
     go true e = never (cc)
     go false e = never (cc)
 steps-refused room cost fault places number m (step ∷ steps) e =
@@ -88,8 +124,8 @@ steps-refused room cost fault places number m (step ∷ steps) e =
     rest = stepsVerdict room (Verdict.Accepted cost) (after places step) (suc number) steps
 
     go : (c : StepCheck) → stepCheck room places step ≡ c → onStep c number rest ≡ Verdict.Refused (Fault.Step fault m) →
-        (rest ≡ Verdict.Refused (Fault.Step fault m) → (n : ℕ) × (suc number + n ≡ m) × Refuses room (after places step) steps fault n) →
-        (n : ℕ) × (number + n ≡ m) × Refuses room places (step ∷ steps) fault n
+        (rest ≡ Verdict.Refused (Fault.Step fault m) → (n : ℕ) × (suc number + n ≡ m) × StepRefused room (after places step) steps fault n) →
+        (n : ℕ) × (number + n ≡ m) × StepRefused room places (step ∷ steps) fault n
     go StepCheck.Sound h e more =
         let a = more e in
         let b = a .2 .there in
@@ -101,7 +137,7 @@ steps-refused room cost fault places number m (step ∷ steps) e =
         (0, omega arith, record { there = omega arith; earlier = refl; check = h ∙ ap StepCheck.Faulty that })
 
 pub refused-steps : (room : Room) (good : Verdict) (fault : StepFault) (places : Placement) (number n : ℕ) (steps : List Step) →
-    Refuses room places steps fault n → stepsVerdict room good places number steps ≡ Verdict.Refused (Fault.Step fault (number + n))
+    StepRefused room places steps fault n → stepsVerdict room good places number steps ≡ Verdict.Refused (Fault.Step fault (number + n))
 unfolding stepsVerdict soundAll afterAll onStep
 refused-steps room good fault places number n [] r = let h = r .there in absurd (omega arith)
 refused-steps room good fault places number zero (step ∷ steps) r = let k : number + zero ≡ number = omega arith in rw (k, r .check)
@@ -115,58 +151,129 @@ refused-steps room good fault places number (suc n) (step ∷ steps) r =
       check = r .check;
     }))
 
--- ---- 17 and 18 of a step
+-- ---- 15 to 18 of a step, by what they mean
 
-module _ (room : Room) (places : Placement) (steps : List Step) (n : ℕ) where
-  pub misfit-at : Refuses room places steps StepFault.Misfit n ↔ MisfitAt room places steps n
-  misfit-at = (to-at, of-at)
+module _ (room : Room) (places : Placement) (step : Step) where
+  pub names-fault : (stepCheck room places step ≡ StepCheck.Faulty StepFault.Misnamed) ↔ FaultNames room places step
+  names-fault = (λ e. record { misnamed = misnamed-check room places step .0 e }, λ f. misnamed-check room places step .1 (f .misnamed))
+
+  pub destination-fault : (stepCheck room places step ≡ StepCheck.Faulty StepFault.Forbidden) ↔ FaultDestination room places step
+  destination-fault = (
+    λ e. let t = forbidden-check room places step .0 e in record { well-named = t .well-named; forbidden = t .forbidden },
+    λ f. forbidden-check room places step .1 (record { well-named = f .well-named; forbidden = f .forbidden }),
+  )
+
+  pub fit-fault : (stepCheck room places step ≡ StepCheck.Faulty StepFault.Misfit) ↔ FaultFit room places step
+  fit-fault = (
+    λ e. let t = misfit-check room places step .0 e in
+        record { well-named = t .well-named; permitted = t .permitted; misfit = misfit-exact room places step (t .well-named) .0 (t .misfit) },
+    λ f. misfit-check room places step .1
+        (record { well-named = f .well-named; permitted = f .permitted; misfit = misfit-exact room places step (f .well-named) .1 (f .misfit) }),
+  )
+
+  pub mate-fault : (stepCheck room places step ≡ StepCheck.Faulty StepFault.Mate) ↔ FaultMate room places step
+  mate-fault = (
+    λ e. let t = mate-check room places step .0 e in
+        record {
+          well-named = t .well-named;
+          permitted = t .permitted;
+          fit = λ x. false≢true (sym (misfit-exact room places step (t .well-named) .1 x) ∙ t .fit);
+          mate = mate-exact room places step (t .well-named) .0 (t .mate);
+        },
+    λ f. mate-check room places step .1 (record {
+      well-named = f .well-named;
+      permitted = f .permitted;
+      fit = fitted f (fitting room places step) refl;
+      mate = mate-exact room places step (f .well-named) .1 (f .mate);
+    }),
+  )
     where
-      to-at : Refuses room places steps StepFault.Misfit n → MisfitAt room places steps n
-      to-at r =
-          let t = misfit-check room (afterAll places (take n steps)) (getD steps n []) .0 (r .check) in
-          record {
-            first = record { there = r .there; earlier = r .earlier; well-named = t .well-named; permitted = t .permitted };
-            misfit = misfit-exact room (afterAll places (take n steps)) (getD steps n []) (t .well-named) .0 (t .misfit);
-          }
+      fitted : (f : FaultMate room places step) (b : Bool) → fitting room places step ≡ b → b ≡ true
+      fitted f true t = refl
+      fitted f false t = absurd (f .fit (misfit-exact room places step (f .well-named) .0 t))
 
-      of-at : MisfitAt room places steps n → Refuses room places steps StepFault.Misfit n
-      of-at r = record {
-        there = r .first .there;
-        earlier = r .first .earlier;
-        check = misfit-check room (afterAll places (take n steps)) (getD steps n []) .1 (record {
-          well-named = r .first .well-named;
-          permitted = r .first .permitted;
-          misfit = misfit-exact room (afterAll places (take n steps)) (getD steps n []) (r .first .well-named) .1 (r .misfit);
-        });
-      }
+-- the first step at fault, as the checker finds it and as every run has it
+pub first-fault : (room : Room) (places : Placement) (steps : List Step) (n : ℕ) (fault : StepFault) (P : Placement → Step → Type 0) →
+    length places ≡ length (room .vms) → ((start : Placement) (step : Step) → (stepCheck room start step ≡ StepCheck.Faulty fault) ↔ P start step) →
+    StepRefused room places steps fault n ↔ FirstAtFault room places steps n P
+first-fault room places steps n fault P l iff = (found, refused)
+  where
+    found : StepRefused room places steps fault n → FirstAtFault room places steps n P
+    found r = record {
+      there = r .there;
+      earlier = r .earlier;
+      fault = λ start run.
+          rw (run-ends (sound-all-named room places (take n steps) (r .earlier)) l run)
+          (iff (afterAll places (take n steps)) (getD steps n []) .0 (r .check));
+    }
 
-  pub mate-at : Refuses room places steps StepFault.Mate n ↔ MateAt room places steps n
-  mate-at = (to-at, of-at)
+    refused : FirstAtFault room places steps n P → StepRefused room places steps fault n
+    refused f =
+        let r = some-run room places (take n steps) in
+        let e : r .0 ≡ afterAll places (take n steps) = run-ends (sound-all-named room places (take n steps) (f .earlier)) l (r .1) in
+        record {
+          there = f .there;
+          earlier = f .earlier;
+          check = iff (afterAll places (take n steps)) (getD steps n []) .1 (rw e at (f .fault (r .0) (r .1)));
+        }
+
+-- ---- 19, by what it means
+
+-- somebody is off his target where not all are at home; at home nobody is
+off-among : (room : Room) (places : Placement) (k n : ℕ) → all (λ v. eqb (placeOf places v) (placeOf (targetOf room) v)) (from k n) ≡ false →
+    (v : ℕ) × (v < k + n) × (placeOf places v ≡ placeOf (targetOf room) v → ⊥)
+unfolding all from
+off-among room places k zero e = absurd (false≢true (sym e))
+off-among room places k (suc n) e = go (eqb (placeOf places k) (placeOf (targetOf room) k)) refl e (off-among room places (suc k) n)
+  where
+    go : (b : Bool) → eqb (placeOf places k) (placeOf (targetOf room) k) ≡ b →
+        (b && all (λ v. eqb (placeOf places v) (placeOf (targetOf room) v)) (from (suc k) n)) ≡ false →
+        (all (λ v. eqb (placeOf places v) (placeOf (targetOf room) v)) (from (suc k) n) ≡ false →
+        (v : ℕ) × (v < suc k + n) × (placeOf places v ≡ placeOf (targetOf room) v → ⊥)) →
+        (v : ℕ) × (v < k + suc n) × (placeOf places v ≡ placeOf (targetOf room) v → ⊥)
+    go true q f more = let r = more f in (r .0, let h = r .1 in omega arith, r .2)
+    go false q f more = (k, omega arith, eqb-false (placeOf places k) (placeOf (targetOf room) k) q)
+
+home-among : (room : Room) (places : Placement) (k n v : ℕ) → all (λ u. eqb (placeOf places u) (placeOf (targetOf room) u)) (from k n) ≡ true → k ≤ v → v < k + n →
+    placeOf places v ≡ placeOf (targetOf room) v
+unfolding all from
+home-among room places k zero v e h l = absurd (omega arith)
+home-among room places k (suc n) v e h l =
+    by-cases (ℕ-discrete k v)
+    (λ q. rw q at (eqb-true (placeOf places k) (placeOf (targetOf room) k) (and-left (eqb (placeOf places k) (placeOf (targetOf room) k)) _ e)))
+    (λ q. home-among room places (suc k) n v (and-right (eqb (placeOf places k) (placeOf (targetOf room) k)) _ e) (omega arith) (omega arith))
+
+module _ (room : Room) (places : Placement) where
+  pub off-some : home room places ≡ false → (v : ℕ) × (v < length (room .vms)) × (placeOf places v ≡ placeOf (targetOf room) v → ⊥)
+  unfolding home
+  off-some e = let w = off-among room places 0 (length (room .vms)) e in (w .0, let l = w .1 in omega arith, w .2)
+
+  pub off-home : (v : ℕ) → v < length (room .vms) → (placeOf places v ≡ placeOf (targetOf room) v → ⊥) → home room places ≡ false
+  unfolding home
+  off-home v h n = go (all (λ u. eqb (placeOf places u) (placeOf (targetOf room) u)) (from 0 (length (room .vms)))) refl
     where
-      to-at : Refuses room places steps StepFault.Mate n → MateAt room places steps n
-      to-at r =
-          let t = mate-check room (afterAll places (take n steps)) (getD steps n []) .0 (r .check) in
-          record {
-            first = record { there = r .there; earlier = r .earlier; well-named = t .well-named; permitted = t .permitted };
-            fit = λ x. false≢true (sym (misfit-exact room (afterAll places (take n steps)) (getD steps n []) (t .well-named) .1 x) ∙ t .fit);
-            mate = mate-exact room (afterAll places (take n steps)) (getD steps n []) (t .well-named) .0 (t .mate);
-          }
+      go : (b : Bool) → all (λ u. eqb (placeOf places u) (placeOf (targetOf room) u)) (from 0 (length (room .vms))) ≡ b → b ≡ false
+      go true q = absurd (n (home-among room places 0 (length (room .vms)) v q (omega arith) (omega arith)))
+      go false q = refl
 
-      fitted : (r : MateAt room places steps n) (b : Bool) → fitting room (afterAll places (take n steps)) (getD steps n []) ≡ b → b ≡ true
-      fitted r true t = refl
-      fitted r false t = absurd (r .fit (misfit-exact room (afterAll places (take n steps)) (getD steps n []) (r .first .well-named) .0 t))
+pub ends-away : (room : Room) (places : Placement) (steps : List Step) → length places ≡ length (room .vms) → StepsAway room places steps ↔ EndsAway room places steps
+ends-away room places steps l = (runs, found)
+  where
+    runs : StepsAway room places steps → EndsAway room places steps
+    runs a = record {
+      sound = a .sound;
+      obeys = λ last run. run-obeys (a .sound) l run;
+      away = λ last run. off-some room last (ap (home room) (run-ends (sound-all-named room places steps (a .sound)) l run) ∙ a .missed);
+    }
 
-      of-at : MateAt room places steps n → Refuses room places steps StepFault.Mate n
-      of-at r = record {
-        there = r .first .there;
-        earlier = r .first .earlier;
-        check = mate-check room (afterAll places (take n steps)) (getD steps n []) .1 (record {
-          well-named = r .first .well-named;
-          permitted = r .first .permitted;
-          fit = fitted r (fitting room (afterAll places (take n steps)) (getD steps n [])) refl;
-          mate = mate-exact room (afterAll places (take n steps)) (getD steps n []) (r .first .well-named) .1 (r .mate);
-        });
-      }
+    found : EndsAway room places steps → StepsAway room places steps
+    found a =
+        let r = some-run room places steps in
+        let w = a .away (r .0) (r .1) in
+        record {
+          sound = a .sound;
+          missed = ap (home room) (sym (run-ends (sound-all-named room places steps (a .sound)) l (r .1))) ∙ off-home room (r .0) (w .0) (w .1) (w .2);
+        }
 
 -- ---- the verdict on two records
 
@@ -175,36 +282,38 @@ pub shaped-verdict : (cluster plan : List ℕ) → Shaped cluster plan → verdi
 unfolding verdictOf onCluster onTarget onPlan
 shaped-verdict cluster plan h = simp (h .cluster-whole, h .target-good, h .plan-whole)
 
--- an accepted plan has none of them
-on-cluster : (c : ClusterCheck) (rest : Verdict) (cost : ℕ) → onCluster c rest ≡ Verdict.Accepted cost → rest ≡ Verdict.Accepted cost
-unfolding onCluster
-on-cluster ClusterCheck.Whole rest cost e = e
-on-cluster (ClusterCheck.Damaged fault) rest cost e = never (cc)
+-- a verdict that is reached only then
+abbrev late : Verdict → Bool
+late (Verdict.Accepted cost) = true
+late (Verdict.Refused (Fault.Cluster fault)) = false
+late (Verdict.Refused (Fault.Target fault)) = false
+late (Verdict.Refused (Fault.Plan fault)) = false
+late (Verdict.Refused (Fault.Step fault step)) = true
+late (Verdict.Refused Fault.OffTarget) = true
 
-on-target : (c : TargetCheck) (rest : Verdict) (cost : ℕ) → onTarget c rest ≡ Verdict.Accepted cost → rest ≡ Verdict.Accepted cost
-unfolding onTarget
-on-target TargetCheck.Good rest cost e = e
-on-target (TargetCheck.Bad fault) rest cost e = never (cc)
+module _ (rest v : Verdict) (l : late v ≡ true) where
+  on-cluster : (c : ClusterCheck) → onCluster c rest ≡ v → (c ≡ ClusterCheck.Whole) × (rest ≡ v)
+  unfolding onCluster
+  on-cluster ClusterCheck.Whole e = (refl, e)
+  on-cluster (ClusterCheck.Damaged fault) e = absurd (false≢true (rw (← e) at l))
 
-on-plan : (c : PlanCheck) (rest : Verdict) (cost : ℕ) → onPlan c rest ≡ Verdict.Accepted cost → rest ≡ Verdict.Accepted cost
-unfolding onPlan
-on-plan PlanCheck.Whole rest cost e = e
-on-plan (PlanCheck.Damaged fault) rest cost e = never (cc)
+  on-target : (c : TargetCheck) → onTarget c rest ≡ v → (c ≡ TargetCheck.Good) × (rest ≡ v)
+  unfolding onTarget
+  on-target TargetCheck.Good e = (refl, e)
+  on-target (TargetCheck.Bad fault) e = absurd (false≢true (rw (← e) at l))
 
-is-whole : (c : ClusterCheck) (rest : Verdict) (cost : ℕ) → onCluster c rest ≡ Verdict.Accepted cost → c ≡ ClusterCheck.Whole
-unfolding onCluster
-is-whole ClusterCheck.Whole rest cost e = refl
-is-whole (ClusterCheck.Damaged fault) rest cost e = never (cc)
+  on-plan : (c : PlanCheck) → onPlan c rest ≡ v → (c ≡ PlanCheck.Whole) × (rest ≡ v)
+  unfolding onPlan
+  on-plan PlanCheck.Whole e = (refl, e)
+  on-plan (PlanCheck.Damaged fault) e = absurd (false≢true (rw (← e) at l))
 
-is-good : (c : TargetCheck) (rest : Verdict) (cost : ℕ) → onTarget c rest ≡ Verdict.Accepted cost → c ≡ TargetCheck.Good
-unfolding onTarget
-is-good TargetCheck.Good rest cost e = refl
-is-good (TargetCheck.Bad fault) rest cost e = never (cc)
-
-is-shaped : (c : PlanCheck) (rest : Verdict) (cost : ℕ) → onPlan c rest ≡ Verdict.Accepted cost → c ≡ PlanCheck.Whole
-unfolding onPlan
-is-shaped PlanCheck.Whole rest cost e = refl
-is-shaped (PlanCheck.Damaged fault) rest cost e = never (cc)
+late-shaped : (cluster plan : List ℕ) (v : Verdict) → late v ≡ true → verdictOf cluster plan ≡ v → Shaped cluster plan × (planVerdict (roomOf cluster) (stepsOf plan) ≡ v)
+unfolding verdictOf
+late-shaped cluster plan v l e =
+    let c = on-cluster _ v l (clusterCheck cluster) e in
+    let t = on-target _ v l (targetCheck (roomOf cluster)) (c .1) in
+    let p = on-plan _ v l (planCheck plan) (t .1) in
+    (record { cluster-whole = c .0; target-good = t .0; plan-whole = p .0 }, p .1)
 
 pub current-length : (room : Room) → length (currentOf room) ≡ length (room .vms)
 unfolding currentOf
@@ -212,13 +321,19 @@ current-length room = length-map (room .vms) (λ vm. vm .current)
 
 module _ (cluster plan : List ℕ) where
   pub accepted-steps : (cost : ℕ) → verdictOf cluster plan ≡ Verdict.Accepted cost →
-      Accepts (roomOf cluster) (currentOf (roomOf cluster)) (stepsOf plan) (costOf (roomOf cluster) (stepsOf plan)) cost
-  unfolding verdictOf planVerdict
+      StepsAccepted (roomOf cluster) (currentOf (roomOf cluster)) (stepsOf plan) (costOf (roomOf cluster) (stepsOf plan)) cost
+  unfolding planVerdict
   accepted-steps cost e =
       steps-accepted (roomOf cluster) (costOf (roomOf cluster) (stepsOf plan)) cost (currentOf (roomOf cluster)) 1 (stepsOf plan)
-      (on-plan (planCheck plan) _ cost (on-target (targetCheck (roomOf cluster)) _ cost (on-cluster (clusterCheck cluster) _ cost e)))
+      (late-shaped cluster plan (Verdict.Accepted cost) refl e .1)
 
-  -- the promises of Checked, as they stand there
+  pub only-holds : (cost : ℕ) → verdictOf cluster plan ≡ Verdict.Accepted cost →
+      Shaped cluster plan × (namedAll (roomOf cluster) (currentOf (roomOf cluster)) (stepsOf plan) ≡ true)
+  only-holds cost e = (
+    late-shaped cluster plan (Verdict.Accepted cost) refl e .0,
+    sound-all-named (roomOf cluster) (currentOf (roomOf cluster)) (stepsOf plan) (accepted-steps cost e .sound),
+  )
+
   pub exact-holds : Shaped cluster plan → namedAll (roomOf cluster) (currentOf (roomOf cluster)) (stepsOf plan) ≡ true →
       ((cost : ℕ) × (verdictOf cluster plan ≡ Verdict.Accepted cost)) ↔ EveryRun (roomOf cluster) (currentOf (roomOf cluster)) (stepsOf plan)
   unfolding planVerdict
@@ -251,54 +366,50 @@ module _ (cluster plan : List ℕ) where
           )
 
   -- a refusal for a step
-  refusal : Shaped cluster plan → (fault : StepFault) (n : ℕ) →
-      (verdictOf cluster plan ≡ Verdict.Refused (Fault.Step fault (suc n))) ↔ Refuses (roomOf cluster) (currentOf (roomOf cluster)) (stepsOf plan) fault n
+  pub step-refusal : (fault : StepFault) (n : ℕ) → (verdictOf cluster plan ≡ Verdict.Refused (Fault.Step fault (suc n))) ↔
+      (Shaped cluster plan × StepRefused (roomOf cluster) (currentOf (roomOf cluster)) (stepsOf plan) fault n)
   unfolding planVerdict
-  refusal h fault n = (refuses, refused)
+  step-refusal fault n = (refuses, refused)
     where
       room : Room
       room = roomOf cluster
 
-      refuses : verdictOf cluster plan ≡ Verdict.Refused (Fault.Step fault (suc n)) → Refuses room (currentOf room) (stepsOf plan) fault n
+      refuses : verdictOf cluster plan ≡ Verdict.Refused (Fault.Step fault (suc n)) → Shaped cluster plan × StepRefused room (currentOf room) (stepsOf plan) fault n
       refuses e =
-          let r = steps-refused room (costOf room (stepsOf plan)) fault (currentOf room) 1 (suc n) (stepsOf plan) (sym (shaped-verdict cluster plan h) ∙ e) in
+          let h = late-shaped cluster plan (Verdict.Refused (Fault.Step fault (suc n))) refl e in
+          let r = steps-refused room (costOf room (stepsOf plan)) fault (currentOf room) 1 (suc n) (stepsOf plan) (h .1) in
           let k = r .1 in
           let i : r .0 ≡ n = omega arith in
-          rw i at (r .2)
+          (h .0, rw i at (r .2))
 
-      refused : Refuses room (currentOf room) (stepsOf plan) fault n → verdictOf cluster plan ≡ Verdict.Refused (Fault.Step fault (suc n))
+      refused : Shaped cluster plan × StepRefused room (currentOf room) (stepsOf plan) fault n → verdictOf cluster plan ≡ Verdict.Refused (Fault.Step fault (suc n))
       refused r =
           let k : 1 + n ≡ suc n = omega arith in
-          shaped-verdict cluster plan h ∙
-          rw k at (refused-steps room (Verdict.Accepted (costOf room (stepsOf plan))) fault (currentOf room) 1 n (stepsOf plan) r)
+          shaped-verdict cluster plan (r .0) ∙
+          rw k at (refused-steps room (Verdict.Accepted (costOf room (stepsOf plan))) fault (currentOf room) 1 n (stepsOf plan) (r .1))
 
-  pub misfit-holds : Shaped cluster plan → (n : ℕ) →
-      (verdictOf cluster plan ≡ Verdict.Refused (Fault.Step StepFault.Misfit (suc n))) ↔ MisfitAt (roomOf cluster) (currentOf (roomOf cluster)) (stepsOf plan) n
-  misfit-holds h n = Iff·trans (refusal h StepFault.Misfit n) (misfit-at (roomOf cluster) (currentOf (roomOf cluster)) (stepsOf plan) n)
+  -- a refusal at the end
+  pub end-refusal : (verdictOf cluster plan ≡ Verdict.Refused Fault.OffTarget) ↔ (Shaped cluster plan × StepsAway (roomOf cluster) (currentOf (roomOf cluster)) (stepsOf plan))
+  unfolding planVerdict
+  end-refusal = (
+    λ e. let h = late-shaped cluster plan (Verdict.Refused Fault.OffTarget) refl e in
+        (h .0, steps-off (roomOf cluster) (costOf (roomOf cluster) (stepsOf plan)) (currentOf (roomOf cluster)) 1 (stepsOf plan) (h .1)),
+    λ a. shaped-verdict cluster plan (a .0) ∙
+        steps-away (roomOf cluster) (Verdict.Accepted (costOf (roomOf cluster) (stepsOf plan))) (currentOf (roomOf cluster)) 1 (stepsOf plan) (a .1 .sound) (a .1 .missed),
+  )
 
-  pub mate-holds : Shaped cluster plan → (n : ℕ) →
-      (verdictOf cluster plan ≡ Verdict.Refused (Fault.Step StepFault.Mate (suc n))) ↔ MateAt (roomOf cluster) (currentOf (roomOf cluster)) (stepsOf plan) n
-  mate-holds h n = Iff·trans (refusal h StepFault.Mate n) (mate-at (roomOf cluster) (currentOf (roomOf cluster)) (stepsOf plan) n)
-
-  pub cost-holds : (cost : ℕ) → verdictOf cluster plan ≡ Verdict.Accepted cost → cost ≡ costOf (roomOf cluster) (stepsOf plan)
-  cost-holds cost e = accepted-steps cost e .cost-is
-
-  pub auditor-holds : (cost : ℕ) → verdictOf cluster plan ≡ Verdict.Accepted cost →
-      StaysWithin (roomOf cluster) (currentOf (roomOf cluster)) (stepsOf plan)
-  auditor-holds cost e =
-      stays-within (roomOf cluster) (currentOf (roomOf cluster)) (stepsOf plan) (accepted-steps cost e .sound) (current-length (roomOf cluster))
-
-  pub only-holds : (cost : ℕ) → verdictOf cluster plan ≡ Verdict.Accepted cost →
-      Shaped cluster plan × (namedAll (roomOf cluster) (currentOf (roomOf cluster)) (stepsOf plan) ≡ true)
-  unfolding verdictOf
-  only-holds cost e =
-      let c = on-cluster (clusterCheck cluster) _ cost e in
-      let t = on-target (targetCheck (roomOf cluster)) _ cost c in (
-        record { cluster-whole = is-whole (clusterCheck cluster) _ cost e; target-good = is-good (targetCheck (roomOf cluster)) _ cost c; plan-whole = is-shaped (planCheck plan) _ cost t },
-        sound-all-named (roomOf cluster) (currentOf (roomOf cluster)) (stepsOf plan) (accepted-steps cost e .sound),
-      )
-
-  -- all of them; that a cost is small is the code's to say, since only it knows that the records hold bytes
-  pub checked-holds : (r : ℕ) → r ≡ packed (verdictOf cluster plan) → ((cost : ℕ) → verdictOf cluster plan ≡ Verdict.Accepted cost → cost < 2 ^ 43) → Checked cluster plan r
-  checked-holds r e b =
-      record { is = e; exact = exact-holds; only = only-holds; misfit = misfit-holds; mate = mate-holds; cost = cost-holds; below = b; auditor = auditor-holds }
+  -- the step of a refusal is one of the plan's
+  pub step-most : (f : Fault) → verdictOf cluster plan ≡ Verdict.Refused f → faultStep f ≤ 512
+  unfolding planVerdict stepsOf
+  step-most (Fault.Cluster fault) e = omega arith
+  step-most (Fault.Target fault) e = omega arith
+  step-most (Fault.Plan fault) e = omega arith
+  step-most (Fault.Step fault s) e =
+      let h = late-shaped cluster plan (Verdict.Refused (Fault.Step fault s)) refl e in
+      let r = steps-refused (roomOf cluster) (costOf (roomOf cluster) (stepsOf plan)) fault (currentOf (roomOf cluster)) 1 s (stepsOf plan) (h .1) in
+      let k = r .1 in
+      let l = r .2 .there in
+      let m = steps-most plan (h .0 .plan-whole) in
+      let n = steps-length plan 7 (stepCount plan) in
+      omega arith
+  step-most Fault.OffTarget e = omega arith

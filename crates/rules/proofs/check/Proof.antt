@@ -1,4 +1,5 @@
-use Rattle.rules.proofs.Laws.Turns.{checked-packed}
+use Rattle.rules.proofs.Laws.Turns.{verdict-packs, checked-packed}
+use native.Mathlib.Omega.{arith}
 use borrow.Author.Needs.{needs}
 use Rattle.rules.proofs.check.Statement.{statement}
 use Rattle.rules.proofs.check.Tie as tie
@@ -13,11 +14,11 @@ verdict-on-requires c κs = search needs
 
 -- src/lib.rt:45:5
 pack-requires : tie.Need-pack-requires
-pack-requires c κs = search needs
+pack-requires c κs = search (needs, verdict-packs)
 
 -- src/lib.rt:41:1
 returns : tie.Need-returns
-returns c = search (needs, checked-packed)
+returns c = checked-packed _ _ _ _ (c .before .verdict-on .ensures) (c .pack .ensures) (λ i. omega (arith, c .before .before .before .shared-slice-known .given i))
 
 pub check-spec : {M : Type 1} → statement M
 check-spec = tie.close (tie.spec verdict-on-requires pack-requires returns)

@@ -12,7 +12,7 @@ node-at-requires c κs = search needs
 
 -- src/mates.rt:73:9
 returns : tie.Need-returns
-returns c = search (needs, counts-here)
+returns c = search (needs, counts-there)
 
 -- src/mates.rt:75:5
 node-at-requires-2 : tie.Need-node-at-requires-2
@@ -20,7 +20,7 @@ node-at-requires-2 c κs = search needs
 
 -- src/mates.rt:68:1
 returns-2 : tie.Need-returns-2
-returns-2 c = search (needs, counts-there)
+returns-2 c = search (needs, counts-here)
 
 pub counts-spec : {M : Type 1} → statement M
 counts-spec = tie.close (tie.spec node-at-requires returns node-at-requires-2 returns-2)

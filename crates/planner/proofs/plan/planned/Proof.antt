@@ -1,6 +1,7 @@
 use mathlib.Core.Path.{refl, sym}
 use Rattle.planner.proofs.Laws.Pairs.{blank-zeros}
 use Rattle.planner.proofs.Laws.Answers.{part-low, part-length, part-whole, answer-plan, answer-blocked}
+use Rattle.rules.proofs.Laws.Allow.{table-allows}
 use borrow.Author.Needs.{needs}
 use Rattle.planner.proofs.plan.planned.Statement.{statement}
 use Rattle.planner.proofs.plan.planned.Tie as tie
@@ -23,7 +24,7 @@ pair-table-requires c κs =
 
 -- src/plan.rt:30:9
 write-steps-requires : tie.Need-write-steps-requires
-write-steps-requires c κs = search needs
+write-steps-requires c κs = search (needs, table-allows)
 
 -- src/plan.rt:32:5
 finish-plan-requires : tie.Need-finish-plan-requires

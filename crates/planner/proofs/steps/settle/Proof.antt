@@ -1,5 +1,5 @@
 use borrow.Author.Needs.{needs}
-use Rattle.planner.proofs.Laws.Moves.{settled-stays, settled-goes}
+use Rattle.planner.proofs.Laws.Moves.{behind-step-stays, behind-step-goes}
 use Rattle.planner.proofs.steps.settle.Statement.{statement}
 use Rattle.planner.proofs.steps.settle.Tie as tie
 use Rattle.planner.proofs.steps.settle.Reads as reads
@@ -7,11 +7,11 @@ use Rattle.planner.proofs.steps.settle.Lts as lts
 
 -- src/steps.rt:78:1
 returns : tie.Need-returns
-returns c = search (needs, settled-stays)
+returns c = search (needs, behind-step-stays)
 
 -- src/steps.rt:78:1
 returns-2 : tie.Need-returns-2
-returns-2 c = search (needs, settled-goes)
+returns-2 c = search (needs, behind-step-goes)
 
 pub settle-spec : {M : Type 1} → statement M
 settle-spec = tie.close (tie.spec returns returns-2)

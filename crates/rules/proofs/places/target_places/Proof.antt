@@ -12,7 +12,7 @@ use Rattle.records.proofs.vm_count.Reads as vm-count-reads
 use Rattle.records.proofs.vm_target.Reads as vm-target-reads
 
 abbrev Inv-loop : tie.InvT-loop
-Inv-loop cluster n places₀ v₀ places v = (v ≤ n) × Filling cluster places (targetOf (roomOf cluster)) v
+Inv-loop cluster n places₀ v₀ places v = (v ≤ n) × Filling places (targetOf (roomOf cluster)) v
 
 abbrev μ-loop : tie.MeasureT-loop
 μ-loop cluster n places₀ v₀ places v = n - v

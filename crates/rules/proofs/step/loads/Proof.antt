@@ -1,4 +1,4 @@
-use Rattle.rules.proofs.Laws.Loads.{loaded-start, loaded-more, loaded-end, place-index, place-offset, dest-index, dest-offset, second-same}
+use Rattle.rules.proofs.Laws.Loads.{loaded-start, loaded-more, loaded-end, place-index, place-offset, dest-index, dest-offset, light-memory, light-cpu, second-memory, second-cpu}
 use borrow.Author.Needs.{needs}
 use native.Mathlib.Omega.{arith}
 use Prim.Native.Nat.{_≤_}
@@ -49,7 +49,7 @@ array-copy-out-here c = search (needs, place-index)
 
 -- src/step.rt:58:19
 with-requires : tie.Need-with-requires Inv-loop μ-loop
-with-requires c κs = let head = c .before .before .before .before in omega (arith, head .loop .inv .1 .memory-most (c .before .node-at .result), head .loop .inv .1 .cpu-most (c .before .node-at .result))
+with-requires c κs = search (needs, light-memory, light-cpu)
 
 -- src/step.rt:58:9
 mul-sums : tie.Need-mul-sums Inv-loop μ-loop
@@ -73,15 +73,7 @@ array-copy-out-there c = search (needs, dest-index)
 
 -- src/step.rt:61:19
 with-requires-2 : tie.Need-with-requires-2 Inv-loop μ-loop
-with-requires-2 c κs =
-    let dest = c .before in
-    let place = dest .before .before .before in
-    let test = place .before .before in
-    let head = test .before in
-    let pre = head .before .before .before .pre .1 in
-    rw (second-same _ _ _ _ _ _ (head .loop .sums) (dest .before .with .result) (place .node-at .ensures .0) (dest .node-at2 .ensures .0) pre
-    (test .loop-test .taken) (head .loop .inv .0))
-    (omega (arith, head .loop .inv .1 .memory-most (dest .node-at2 .result), head .loop .inv .1 .cpu-most (dest .node-at2 .result)))
+with-requires-2 c κs = search (needs, second-memory, second-cpu)
 
 -- src/step.rt:61:9
 mul-sums-2 : tie.Need-mul-sums-2 Inv-loop μ-loop
@@ -97,19 +89,12 @@ loop-less c = search needs
 
 -- src/step.rt:53:5
 loop-again : tie.Need-loop-again Inv-loop μ-loop
-loop-again c =
-    let dest = c .before .before in
-    let place = dest .before .before .before in
-    let vm = place .before in
-    let test = vm .before in
-    let head = test .before in
-    let pre = head .before .before .before .pre .1 in (
-      omega arith,
-      loaded-more _ _ _ _ _ _ _ _ _ _ (head .loop .inv .1) pre (vm .need-of .ensures) (place .node-at .ensures .0) (dest .node-at2 .ensures .0)
-          (test .loop-test .taken) (head .loop .inv .0) (dest .before .with .ensures) (c .with2 .ensures),
-    )
+loop-again c = (omega arith, search (needs, loaded-more))
 
--- src/step.rt:47:1
+array-set-from-sums-3 : tie.Need-array-set-from-sums-3 Inv-loop μ-loop
+array-set-from-sums-3 c = search needs
+
+-- src/step.rt:51:1
 returns : tie.Need-returns Inv-loop μ-loop
 returns c = search (needs, loaded-end)
 
@@ -137,4 +122,5 @@ loads-spec =
     array-set-from-sums-2
     loop-less
     loop-again
+    array-set-from-sums-3
     returns)

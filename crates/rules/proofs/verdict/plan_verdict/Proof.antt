@@ -1,4 +1,5 @@
 use Rattle.rules.proofs.Laws.Turns.{plan-damaged, plan-fine, plan-is-whole}
+use Rattle.rules.proofs.Laws.Allow.{table-allows}
 use borrow.Author.Needs.{needs}
 use Rattle.rules.proofs.verdict.plan_verdict.Statement.{statement}
 use Rattle.rules.proofs.verdict.plan_verdict.Tie as tie
@@ -26,7 +27,7 @@ allow-table-requires c κs = search needs
 
 -- src/verdict.rt:63:13
 steps-verdict-requires : tie.Need-steps-verdict-requires
-steps-verdict-requires c κs = search (needs, plan-is-whole)
+steps-verdict-requires c κs = search (needs, plan-is-whole, table-allows)
 
 -- src/verdict.rt:54:1
 returns : tie.Need-returns

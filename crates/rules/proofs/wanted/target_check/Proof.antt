@@ -1,7 +1,8 @@
 use borrow.Author.Tests.{not-true, not-false}
 use Rattle.rules.proofs.Laws.Targets.{placed-low}
-use Rattle.rules.proofs.Laws.Kept.{holds-placed, target-overfull, target-broken, target-good}
+use Rattle.rules.proofs.Laws.Kept.{target-overfull, target-broken, target-good}
 use borrow.Author.Needs.{needs}
+use Rattle.rules.proofs.Laws.Places.{target-placed}
 use Rattle.rules.proofs.wanted.target_check.Statement.{statement}
 use Rattle.rules.proofs.wanted.target_check.Tie as tie
 use Rattle.rules.proofs.wanted.target_check.Reads as reads
@@ -16,7 +17,7 @@ target-places-requires c κs = search needs
 
 -- src/wanted.rt:137:9
 places-fit-requires : tie.Need-places-fit-requires
-places-fit-requires c κs = search needs
+places-fit-requires c κs = search (needs, target-placed)
 
 -- src/wanted.rt:138:9
 returns : tie.Need-returns
@@ -24,15 +25,15 @@ returns c = search (needs, target-overfull, not-true)
 
 -- src/wanted.rt:140:9
 all-kept-requires : tie.Need-all-kept-requires
-all-kept-requires c κs = search (needs, placed-low)
+all-kept-requires c κs = search (needs, placed-low, target-placed)
 
 -- src/wanted.rt:141:9
 returns-2 : tie.Need-returns-2
-returns-2 c = search (needs, target-broken, not-true, not-false, placed-low)
+returns-2 c = search (needs, target-broken, not-true, not-false, placed-low, target-placed)
 
 -- src/wanted.rt:132:1
 returns-3 : tie.Need-returns-3
-returns-3 c = search (needs, target-good, not-false, placed-low)
+returns-3 c = search (needs, target-good, not-false, placed-low, target-placed)
 
 pub target-check-spec : {M : Type 1} → statement M
 target-check-spec =

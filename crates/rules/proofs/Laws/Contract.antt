@@ -1,0 +1,84 @@
+-- The contract of `check` as one law: every two records, and the number that the verdict on them packs to, have what `Checked` promises.
+use Prim.Native.Nat.{ℕ, suc, _<_, _^_}
+use mathlib.Core.List.{List}
+use mathlib.Core.Logic.{_↔_, Iff·trans}
+use mathlib.Core.Path.{_≡_, refl}
+use Rattle.records.specs.Bytes.{AreBytes}
+use Rattle.records.specs.Room.{roomOf}
+use Rattle.records.specs.Plan.{Step, stepsOf}
+use Rattle.rules.specs.Moments.{Placement, currentOf}
+use Rattle.rules.specs.Rules.{stepCheck}
+use Rattle.rules.specs.Cost.{costOf}
+use Rattle.rules.specs.Verdict.{verdictOf, faultNumber, faultStep, packed}
+use Rattle.rules.specs.Returned.{toldCost, SaysGood, SaysRefused}
+use Rattle.rules.specs.Promises.{Shaped, FaultNames, FaultDestination, FaultFit, FaultMate, FirstAtFault, TellsVerdict, Checked}
+use Rattle.rules.specs.declared.faults.StepFault.{StepFault}
+use Rattle.rules.specs.declared.faults.StepCheck.{StepCheck}
+use Rattle.rules.specs.declared.faults.Fault.{Fault}
+use Rattle.rules.specs.declared.faults.Verdict.{Verdict}
+use Rattle.rules.proofs.Laws.Returned.{tells-accepted, tells-refused, says-accepted, accepted-says, says-refused}
+use Rattle.rules.proofs.Laws.Runs.{sound-orders, stays-within}
+use Rattle.rules.proofs.Laws.Spreads.{stays-apart}
+use Rattle.rules.proofs.Laws.Costs.{cost-low}
+use Rattle.rules.proofs.Laws.Verdicts.{names-fault, destination-fault, fit-fault, mate-fault, first-fault, ends-away, current-length, accepted-steps, only-holds, exact-holds, step-refusal, end-refusal, step-most}
+
+beside : {A B C : Type 0} → A ↔ B → (C × A) ↔ (C × B)
+beside e = (λ x. (x .0, e .0 (x .1)), λ x. (x .0, e .1 (x .1)))
+
+module _ (cluster plan : List ℕ) (b : AreBytes cluster) where
+  -- the cost of an accepted plan
+  cost-is : (cost : ℕ) → verdictOf cluster plan ≡ Verdict.Accepted cost → cost ≡ costOf (roomOf cluster) (stepsOf plan)
+  cost-is cost e = accepted-steps cluster plan cost e .cost-is
+
+  cost-most : (cost : ℕ) → verdictOf cluster plan ≡ Verdict.Accepted cost → cost < 2 ^ 43
+  cost-most cost e = rw (cost-is cost e) (cost-low cluster plan b (only-holds cluster plan cost e .0 .plan-whole))
+
+  -- the number tells the verdict
+  tells : TellsVerdict (packed (verdictOf cluster plan)) (verdictOf cluster plan)
+  tells = go (verdictOf cluster plan) refl
+    where
+      go : (v : Verdict) → verdictOf cluster plan ≡ v → TellsVerdict (packed v) v
+      go (Verdict.Accepted cost) e = tells-accepted cost (cost-most cost e)
+      go (Verdict.Refused f) e = tells-refused f (step-most cluster plan f e)
+
+  module _ (r : ℕ) (q : r ≡ packed (verdictOf cluster plan)) where
+    told : TellsVerdict r (verdictOf cluster plan)
+    told = rw q tells
+
+    accepted : SaysGood r → verdictOf cluster plan ≡ Verdict.Accepted (toldCost r)
+    accepted g = says-accepted r (verdictOf cluster plan) told g
+
+    says : (f : Fault) → SaysRefused r (faultNumber f) (faultStep f) ↔ (verdictOf cluster plan ≡ Verdict.Refused f)
+    says f = says-refused r (verdictOf cluster plan) f told
+
+    at-step : (fault : StepFault) (n : ℕ) (P : Placement → Step → Type 0) →
+        ((start : Placement) (step : Step) → (stepCheck (roomOf cluster) start step ≡ StepCheck.Faulty fault) ↔ P start step) →
+        SaysRefused r (faultNumber (Fault.Step fault (suc n))) (suc n) ↔ (Shaped cluster plan × FirstAtFault (roomOf cluster) (currentOf (roomOf cluster)) (stepsOf plan) n P)
+    at-step fault n P iff =
+        Iff·trans (says (Fault.Step fault (suc n)))
+        (Iff·trans (step-refusal cluster plan fault n)
+        (beside (first-fault (roomOf cluster) (currentOf (roomOf cluster)) (stepsOf plan) n fault P (current-length (roomOf cluster)) iff)))
+
+    pub contract : Checked cluster plan r
+    contract = record {
+      is = q;
+      told = told;
+      exact = λ s n.
+          let e = exact-holds cluster plan s n in
+          (λ g. e .0 (toldCost r, accepted g), λ x. let a = e .1 x in accepted-says r (verdictOf cluster plan) (a .0) told (a .1));
+      only = λ g. only-holds cluster plan (toldCost r) (accepted g);
+      misnamed = λ n. at-step StepFault.Misnamed n (FaultNames (roomOf cluster)) (names-fault (roomOf cluster));
+      forbidden = λ n. at-step StepFault.Forbidden n (FaultDestination (roomOf cluster)) (destination-fault (roomOf cluster));
+      misfit = λ n. at-step StepFault.Misfit n (FaultFit (roomOf cluster)) (fit-fault (roomOf cluster));
+      mate = λ n. at-step StepFault.Mate n (FaultMate (roomOf cluster)) (mate-fault (roomOf cluster));
+      off-target =
+          Iff·trans (says Fault.OffTarget)
+          (Iff·trans (end-refusal cluster plan) (beside (ends-away (roomOf cluster) (currentOf (roomOf cluster)) (stepsOf plan) (current-length (roomOf cluster)))));
+      cost = λ g. cost-is (toldCost r) (accepted g);
+      below = λ g. cost-most (toldCost r) (accepted g);
+      auditor = λ g.
+          stays-within (roomOf cluster) (currentOf (roomOf cluster)) (stepsOf plan) (accepted-steps cluster plan (toldCost r) (accepted g) .sound) (current-length (roomOf cluster));
+      apart = λ g.
+          stays-apart (roomOf cluster) (currentOf (roomOf cluster)) (stepsOf plan) (accepted-steps cluster plan (toldCost r) (accepted g) .sound) (current-length (roomOf cluster));
+      sound = sound-orders (roomOf cluster);
+    }
