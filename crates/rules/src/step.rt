@@ -54,16 +54,17 @@ pub fn loads(cluster: &[u8], places: &[u8; 256], dests: &[u8; 256]) -> [Tally; 6
     ensures { λ r. ⌜ Loads (now (cluster .entry)) (now (places .entry)) (now (dests .entry)) r ⌝ }
 {
     let mut sums = [Tally::EMPTY; 65];
-    let mut v = records::vm_count(cluster);
-    while 0 < v {
-        v -= 1;
+    let mut left = records::vm_count(cluster);
+    while 0 < left {
+        let v = left - 1;
         let vm = need_of(cluster, v);
-        let p = node_at(places, v);
-        let here = sums[p];
-        sums[p] = here.with(vm);
         let d = node_at(dests, v);
         let there = sums[d];
         sums[d] = there.with(vm);
+        let p = node_at(places, v);
+        let here = sums[p];
+        sums[p] = here.with(vm);
+        left = v;
     }
     sums[64] = Tally::EMPTY;
     sums

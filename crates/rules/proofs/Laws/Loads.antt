@@ -1,6 +1,6 @@
 -- Laws on the sums of a step: adding the VMs one by one, each to its place and its destination, gives the tally of every node.
 use Prim.Native.Nat.{ℕ, zero, suc, _+_, _-_, _*_, _≤_, _<_, _^_}
-use mathlib.Core.Bool.{Bool, true, false, _||_, or-false, or-true}
+use mathlib.Core.Bool.{Bool, true, false, _||_, or-comm, or-false, or-true}
 use mathlib.Core.List.{List, map}
 use mathlib.Core.Logic.{by-cases}
 use mathlib.Core.Path.{_≡_, refl, sym, ap, _∙_}
@@ -117,10 +117,10 @@ module _ (s places dests : List ℕ) (v q : ℕ) (y : q ≡ getD dests (v - 1) 0
   pub dest-offset : Fits w64 (q * 16)
   dest-offset = let w = r .most (v - 1) (omega arith) in record { fits = omega arith }
 
--- the second sum is read as it was
-second-same : (s places dests : List ℕ) (v p q : ℕ) (sums : List Tally) (one : Tally) → p ≡ getD places (v - 1) 0 → q ≡ getD dests (v - 1) 0 →
-    Ready s places dests → 0 < v → v ≤ vmCount s → getD (set sums p one) q emptyTally ≡ getD sums q emptyTally
-second-same s places dests v p q sums one x y r h k = getD-set-other sums p q one emptyTally (λ e. r .leaves (v - 1) (omega arith) (sym y ∙ e ∙ x))
+-- the second sum, that of the place, is read as it was
+second-same : (s places dests : List ℕ) (v q p : ℕ) (sums : List Tally) (one : Tally) → q ≡ getD dests (v - 1) 0 → p ≡ getD places (v - 1) 0 →
+    Ready s places dests → 0 < v → v ≤ vmCount s → getD (set sums q one) p emptyTally ≡ getD sums p emptyTally
+second-same s places dests v q p sums one y x r h k = getD-set-other sums q p one emptyTally (λ e. r .leaves (v - 1) (omega arith) (sym y ∙ sym e ∙ x))
 
 -- a VM can be added to a sum, and to the second once the first has changed
 module _ (s places dests : List ℕ) (v : ℕ) (sums : List Tally) (w : Loaded s places dests v sums) (c : clusterCheck s ≡ Whole) where
@@ -130,16 +130,16 @@ module _ (s places dests : List ℕ) (v : ℕ) (sums : List Tally) (w : Loaded s
   pub light-cpu : (d : ℕ) → getD sums d emptyTally .cpu < 2 ^ 40
   light-cpu d = let m = vms-most s c in let h = w .cpu-most d in omega arith
 
-  module _ (p q : ℕ) (one : Tally) (x : p ≡ getD places (v - 1) 0) (y : q ≡ getD dests (v - 1) 0) (r : Ready s places dests) (h : 0 < v) (k : v ≤ vmCount s) where
-    pub second-memory : getD (set sums p one) q emptyTally .memory < 2 ^ 40
-    second-memory = rw (second-same s places dests v p q sums one x y r h k) (light-memory q)
+  module _ (q p : ℕ) (one : Tally) (y : q ≡ getD dests (v - 1) 0) (x : p ≡ getD places (v - 1) 0) (r : Ready s places dests) (h : 0 < v) (k : v ≤ vmCount s) where
+    pub second-memory : getD (set sums q one) p emptyTally .memory < 2 ^ 40
+    second-memory = rw (second-same s places dests v q p sums one y x r h k) (light-memory p)
 
-    pub second-cpu : getD (set sums p one) q emptyTally .cpu < 2 ^ 40
-    second-cpu = rw (second-same s places dests v p q sums one x y r h k) (light-cpu q)
+    pub second-cpu : getD (set sums q one) p emptyTally .cpu < 2 ^ 40
+    second-cpu = rw (second-same s places dests v q p sums one y x r h k) (light-cpu p)
 
 -- the turn, at VM u = v - 1
-module _ (s places dests : List ℕ) (v p q : ℕ) (sums : List Tally) (vm : Need) (one two : Tally) (w : Loaded s places dests v sums)
-    (r : Ready s places dests) (m : NeedOf (roomOf s) (v - 1) vm) (x : p ≡ getD places (v - 1) 0) (y : q ≡ getD dests (v - 1) 0) (h : 0 < v) (k : v ≤ vmCount s) where
+module _ (s places dests : List ℕ) (v q p : ℕ) (sums : List Tally) (vm : Need) (one two : Tally) (w : Loaded s places dests v sums)
+    (r : Ready s places dests) (m : NeedOf (roomOf s) (v - 1) vm) (y : q ≡ getD dests (v - 1) 0) (x : p ≡ getD places (v - 1) 0) (h : 0 < v) (k : v ≤ vmCount s) where
   here : v - 1 < vmCount s
   here = omega arith
 
@@ -149,12 +149,12 @@ module _ (s places dests : List ℕ) (v p q : ℕ) (sums : List Tally) (vm : Nee
   load-dest : q ≤ 64
   load-dest = rw y (r .most (v - 1) here)
 
-  load-leaves : q ≡ p → ⊥
-  load-leaves e = r .leaves (v - 1) here (sym y ∙ e ∙ x)
+  load-leaves : p ≡ q → ⊥
+  load-leaves e = r .leaves (v - 1) here (sym y ∙ sym e ∙ x)
 
-  module _ (a : one ≡ record { memory = getD sums p emptyTally .memory + vm .memory; cpu = getD sums p emptyTally .cpu + vm .cpu })
-      (b : two ≡ record { memory = getD (set sums p one) q emptyTally .memory + vm .memory; cpu = getD (set sums p one) q emptyTally .cpu + vm .cpu }) where
-    pub loaded-more : Loaded s places dests (v - 1) (set (set sums p one) q two)
+  module _ (a : one ≡ record { memory = getD sums q emptyTally .memory + vm .memory; cpu = getD sums q emptyTally .cpu + vm .cpu })
+      (b : two ≡ record { memory = getD (set sums q one) p emptyTally .memory + vm .memory; cpu = getD (set sums q one) p emptyTally .cpu + vm .cpu }) where
+    pub loaded-more : Loaded s places dests (v - 1) (set (set sums q one) p two)
     unfolding plus
     loaded-more =
         let hp = load-place in
@@ -164,13 +164,14 @@ module _ (s places dests : List ℕ) (v p q : ℕ) (sums : List Tally) (vm : Nee
         let less : vmCount s - (v - 1) ≡ suc (vmCount s - v) = omega arith in
         let next : suc (v - 1) ≡ v = omega arith in
         record {
-          size = length-set (set sums p one) q two ∙ length-set sums p one ∙ w .size;
+          size = length-set (set sums q one) p two ∙ length-set sums q one ∙ w .size;
           each = λ d g.
-              after-both p q sums vm one two (w .size) hp′ hq′ load-leaves a b d ∙
+              after-both q p sums vm one two (w .size) hq′ hp′ load-leaves a b d ∙
+              ap (λ (c : Bool). pick c (plus vm (getD sums d emptyTally)) (getD sums d emptyTally)) (or-comm (eqb q d) (eqb p d)) ∙
               rw (less, busy-suc (roomOf s) places dests (v - 1) (vmCount s - v) d, counts-is dests (v - 1) (getD places (v - 1) 0) d g, next, ← w .each d g, ← x, ← y)
               (ap (λ (t : Tally). pick (eqb p d || eqb q d) t (getD sums d emptyTally)) (plus-is (roomOf s) (v - 1) vm (getD sums d emptyTally) m));
-          memory-most = λ d. rw less (more-most p q sums vm one two (w .size) hp′ hq′ load-leaves a b d (vmCount s - v) (w .memory-most d) (m .memory-most));
-          cpu-most = λ d. rw less (more-cpu p q sums vm one two (w .size) hp′ hq′ load-leaves a b d (vmCount s - v) (w .cpu-most d) (m .cpu-most));
+          memory-most = λ d. rw less (more-most q p sums vm one two (w .size) hq′ hp′ load-leaves a b d (vmCount s - v) (w .memory-most d) (m .memory-most));
+          cpu-most = λ d. rw less (more-cpu q p sums vm one two (w .size) hq′ hp′ load-leaves a b d (vmCount s - v) (w .cpu-most d) (m .cpu-most));
         }
 
 -- nobody counts on 64, which is no node

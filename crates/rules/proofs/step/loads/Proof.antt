@@ -1,5 +1,5 @@
-use Rattle.rules.proofs.Laws.Loads.{loaded-start, loaded-more, loaded-end, place-index, place-offset, dest-index, dest-offset, light-memory, light-cpu, second-memory, second-cpu}
 use borrow.Author.Needs.{needs}
+use Rattle.rules.proofs.Laws.Loads.{loaded-start, loaded-more, loaded-end, place-index, place-offset, dest-index, dest-offset, light-memory, light-cpu, second-memory, second-cpu}
 use native.Mathlib.Omega.{arith}
 use Prim.Native.Nat.{_≤_}
 use Rattle.records.specs.Room.{vmCount}
@@ -14,87 +14,88 @@ use Rattle.rules.proofs.tally.Tally.with.Reads as with-reads
 use Rattle.rules.proofs.tally.need_of.Reads as need-of-reads
 
 abbrev Inv-loop : tie.InvT-loop
-Inv-loop cluster places dests sums₀ v₀ sums v = (v ≤ vmCount cluster) × Loaded cluster places dests v sums
+Inv-loop cluster places dests sums₀ left₀ sums left = (left ≤ vmCount cluster) × Loaded cluster places dests left sums
 
 abbrev μ-loop : tie.MeasureT-loop
-μ-loop cluster places dests sums₀ v₀ sums v = v
+μ-loop cluster places dests sums₀ left₀ sums left = left
 
--- src/step.rt:52:9
+-- src/step.rt:57:9
 vm-count-requires : tie.Need-vm-count-requires Inv-loop μ-loop
 vm-count-requires c κs = search needs
 
--- src/step.rt:53:5
+-- src/step.rt:58:5
 loop-holds : tie.Need-loop-holds Inv-loop μ-loop
 loop-holds c = search (needs, loaded-start)
 
--- src/step.rt:54:9
+-- src/step.rt:59:17
 sub-v : tie.Need-sub-v Inv-loop μ-loop
 sub-v c = search needs
 
--- src/step.rt:55:13
+-- src/step.rt:60:13
 need-of-requires : tie.Need-need-of-requires Inv-loop μ-loop
 need-of-requires c κs = search needs
 
--- src/step.rt:56:13
+-- src/step.rt:61:13
 node-at-requires : tie.Need-node-at-requires Inv-loop μ-loop
 node-at-requires c κs = search needs
 
--- src/step.rt:57:20
-mul-here : tie.Need-mul-here Inv-loop μ-loop
-mul-here c = search (needs, place-offset)
-
--- src/step.rt:57:20
-array-copy-out-here : tie.Need-array-copy-out-here Inv-loop μ-loop
-array-copy-out-here c = search (needs, place-index)
-
--- src/step.rt:58:19
-with-requires : tie.Need-with-requires Inv-loop μ-loop
-with-requires c κs = search (needs, light-memory, light-cpu)
-
--- src/step.rt:58:9
-mul-sums : tie.Need-mul-sums Inv-loop μ-loop
-mul-sums c = search (needs, place-offset)
-
--- src/step.rt:58:9
-array-set-from-sums : tie.Need-array-set-from-sums Inv-loop μ-loop
-array-set-from-sums c = search (needs, place-index)
-
--- src/step.rt:59:13
-node-at-requires-2 : tie.Need-node-at-requires-2 Inv-loop μ-loop
-node-at-requires-2 c κs = search needs
-
--- src/step.rt:60:21
+-- src/step.rt:62:21
 mul-there : tie.Need-mul-there Inv-loop μ-loop
 mul-there c = search (needs, dest-offset)
 
--- src/step.rt:60:21
+-- src/step.rt:62:21
 array-copy-out-there : tie.Need-array-copy-out-there Inv-loop μ-loop
 array-copy-out-there c = search (needs, dest-index)
 
--- src/step.rt:61:19
+-- src/step.rt:63:19
+with-requires : tie.Need-with-requires Inv-loop μ-loop
+with-requires c κs = search (needs, light-memory, light-cpu)
+
+-- src/step.rt:63:9
+mul-sums : tie.Need-mul-sums Inv-loop μ-loop
+mul-sums c = search (needs, dest-offset)
+
+-- src/step.rt:63:9
+array-set-from-sums : tie.Need-array-set-from-sums Inv-loop μ-loop
+array-set-from-sums c = search (needs, dest-index)
+
+-- src/step.rt:64:13
+node-at-requires-2 : tie.Need-node-at-requires-2 Inv-loop μ-loop
+node-at-requires-2 c κs = search needs
+
+-- src/step.rt:65:20
+mul-here : tie.Need-mul-here Inv-loop μ-loop
+mul-here c = search (needs, place-offset)
+
+-- src/step.rt:65:20
+array-copy-out-here : tie.Need-array-copy-out-here Inv-loop μ-loop
+array-copy-out-here c = search (needs, place-index)
+
+-- src/step.rt:66:19
 with-requires-2 : tie.Need-with-requires-2 Inv-loop μ-loop
 with-requires-2 c κs = search (needs, second-memory, second-cpu)
 
--- src/step.rt:61:9
+-- src/step.rt:66:9
 mul-sums-2 : tie.Need-mul-sums-2 Inv-loop μ-loop
-mul-sums-2 c = search (needs, dest-offset)
+mul-sums-2 c = search (needs, place-offset)
 
--- src/step.rt:61:9
+-- src/step.rt:66:9
 array-set-from-sums-2 : tie.Need-array-set-from-sums-2 Inv-loop μ-loop
-array-set-from-sums-2 c = search (needs, dest-index)
+array-set-from-sums-2 c = search (needs, place-index)
 
--- src/step.rt:53:5
+-- src/step.rt:58:5
 loop-less : tie.Need-loop-less Inv-loop μ-loop
 loop-less c = search needs
 
--- src/step.rt:53:5
+-- src/step.rt:58:5
 loop-again : tie.Need-loop-again Inv-loop μ-loop
 loop-again c = (omega arith, search (needs, loaded-more))
 
+-- src/step.rt:69:5
 array-set-from-sums-3 : tie.Need-array-set-from-sums-3 Inv-loop μ-loop
 array-set-from-sums-3 c = search needs
 
--- src/step.rt:51:1
+-- src/step.rt:52:1
 returns : tie.Need-returns Inv-loop μ-loop
 returns c = search (needs, loaded-end)
 
@@ -109,14 +110,14 @@ loads-spec =
     sub-v
     need-of-requires
     node-at-requires
-    mul-here
-    array-copy-out-here
+    mul-there
+    array-copy-out-there
     with-requires
     mul-sums
     array-set-from-sums
     node-at-requires-2
-    mul-there
-    array-copy-out-there
+    mul-here
+    array-copy-out-here
     with-requires-2
     mul-sums-2
     array-set-from-sums-2
