@@ -6,22 +6,23 @@
  * --keep-blocked also the steps made before the planner was blocked. What was built goes through the checker
  * before it is written. A file that could not be written whole is no plan record: the checker refuses it.
  *
+ * A line says what came of it. Behind it stands a line for each move made: step, VM, source, destination.
+ *
  * Exit status:
  *   0  a plan was made and written
  *   1  blocked: the planner found no next step (this does not say that no plan exists)
  *   2  refused: the cluster record is damaged, or its target cannot be
- *   3  a file cannot be read or written
- *   4  wrong usage
- *   5  planner and checker disagree: a fault of the libraries; nothing is written
+ *   3  wrong use, or a file that cannot be read or written
+ *   5  planner and checker disagree: a fault of the library; nothing is written
  */
 #include <errno.h>
 #include <inttypes.h>
 #include <stdio.h>
 #include <string.h>
 
-#include "kobdrieft.h"
+#include <kobdrieft.h>
 
-enum status { PLANNED = 0, BLOCKED = 1, REFUSED = 2, FILE_FAULT = 3, USAGE = 4, DISAGREE = 5 };
+enum status { PLANNED = 0, BLOCKED = 1, REFUSED = 2, USE_OR_FILE = 3, DISAGREE = 5 };
 
 /* One byte more than a record may have, so that a longer file gets the library's own number. */
 #define LENT_MOST (KOB_MAX_CLUSTER_BYTES + 1)
@@ -37,7 +38,7 @@ struct cluster {
     size_t len;
 };
 
-/* What `build` gave: its result, and its record at the front of a buffer. */
+/* What kob_build gave: its result, and its record at the front of a buffer. */
 struct built {
     uint64_t result;
     uint8_t bytes[KOB_BUILD_BUFFER];
@@ -47,7 +48,7 @@ struct built {
 static int usage(void)
 {
     fprintf(stderr, "usage: agent [--keep-blocked] CLUSTER PLAN-OUT\n");
-    return USAGE;
+    return USE_OR_FILE;
 }
 
 /* Whether the arguments are right; then the options are set. */
@@ -111,10 +112,19 @@ static void plan_for(const struct cluster *cluster, struct built *built)
     built->len = kob_outcome_of(built->result) == KOB_REFUSED ? 0 : kob_plan_length(built->bytes);
 }
 
+/* Whether what was built can be read: a whole record, or none if refused. */
+static int readable(const struct built *built)
+{
+    kob_reader reader;
+    if (kob_outcome_of(built->result) == KOB_REFUSED)
+        return 1;
+    return built->len <= sizeof built->bytes && kob_read_start(&reader, built->bytes, built->len);
+}
+
 /* Whether the checker says of what was built what it must. */
 static int agrees(const struct cluster *cluster, const struct built *built)
 {
-    if (built->len > sizeof built->bytes)
+    if (!readable(built))
         return 0;
     uint64_t verdict = kob_check(cluster->bytes, cluster->len, built->bytes, built->len);
     switch (kob_outcome_of(built->result)) {
@@ -134,33 +144,61 @@ static void print_made(uint64_t result)
     printf("steps %u, moves %u, cost %" PRIu64, kob_steps(result), kob_moves(result), kob_cost(result));
 }
 
-static int end_planned(const struct options *options, const struct built *built)
+/* Where each VM is, a node for each number that a move can name. */
+static void find_places(const struct cluster *cluster, unsigned places[KOB_MAX_VMS])
+{
+    for (unsigned vm = 0; vm < KOB_MAX_VMS; vm++)
+        if (!kob_vm_current(cluster->bytes, cluster->len, vm, &places[vm]))
+            places[vm] = 0;
+}
+
+/* A move's source is where its VM is then: a step moves a VM at most once. */
+static void print_moves(const struct cluster *cluster, const struct built *built)
+{
+    unsigned places[KOB_MAX_VMS];
+    unsigned moves, vm, destination;
+    kob_reader reader;
+    find_places(cluster, places);
+    kob_read_start(&reader, built->bytes, built->len);
+    for (unsigned step = 1; kob_read_step(&reader, &moves); step++) {
+        while (kob_read_move(&reader, &vm, &destination)) {
+            printf("%u %u %u %u\n", step, vm, places[vm], destination);
+            places[vm] = destination;
+        }
+    }
+}
+
+static int end_planned(const struct options *options, const struct cluster *cluster,
+                       const struct built *built)
 {
     if (!write_plan(options->plan, built))
-        return FILE_FAULT;
+        return USE_OR_FILE;
     printf("agent: plan: ");
     print_made(built->result);
     printf("; written to %s\n", options->plan);
+    print_moves(cluster, built);
     return PLANNED;
 }
 
-static int end_blocked(const struct options *options, const struct built *built)
+static int end_blocked(const struct options *options, const struct cluster *cluster,
+                       const struct built *built)
 {
     if (options->keep_blocked && !write_plan(options->plan, built))
-        return FILE_FAULT;
+        return USE_OR_FILE;
     printf("agent: blocked: ");
     print_made(built->result);
     if (options->keep_blocked)
         printf("; these steps written to %s\n", options->plan);
     else
         printf("; nothing written\n");
+    print_moves(cluster, built);
     return BLOCKED;
 }
 
 static int end_refused(const struct built *built)
 {
     unsigned number = kob_refusal_number(built->result);
-    printf("agent: refused, number %u: %s; nothing written\n", number, kob_fault_text(number));
+    printf("agent: refused, number %u; nothing written. %s\n", number, kob_fault_text(number));
     return REFUSED;
 }
 
@@ -171,6 +209,31 @@ static int end_disagree(const struct built *built)
     return DISAGREE;
 }
 
+/* Writes and says what was built. */
+static int end(const struct options *options, const struct cluster *cluster, const struct built *built)
+{
+    if (!agrees(cluster, built))
+        return end_disagree(built);
+    switch (kob_outcome_of(built->result)) {
+    case KOB_PLAN:
+        return end_planned(options, cluster, built);
+    case KOB_BLOCKED:
+        return end_blocked(options, cluster, built);
+    default:
+        return end_refused(built);
+    }
+}
+
+/* The status, unless what was printed got lost. */
+static int printed(int status)
+{
+    errno = 0;
+    if (fflush(stdout) == 0 && !ferror(stdout))
+        return status;
+    file_fault("write", "standard output", errno);
+    return USE_OR_FILE;
+}
+
 int main(int argc, char **argv)
 {
     static struct cluster cluster;
@@ -179,13 +242,7 @@ int main(int argc, char **argv)
     if (!parse(argc, argv, &options))
         return usage();
     if (!read_cluster(options.cluster, &cluster))
-        return FILE_FAULT;
+        return USE_OR_FILE;
     plan_for(&cluster, &built);
-    if (!agrees(&cluster, &built))
-        return end_disagree(&built);
-    if (kob_outcome_of(built.result) == KOB_PLAN)
-        return end_planned(&options, &built);
-    if (kob_outcome_of(built.result) == KOB_BLOCKED)
-        return end_blocked(&options, &built);
-    return end_refused(&built);
+    return printed(end(&options, &cluster, &built));
 }

@@ -1,18 +1,19 @@
 /* Kobdrieft: plans VM migrations in a small cluster, and checks such plans.
  *
- * Two calls: `build` (libplanner.a) makes a plan, `check` (librules.a) gives the verdict on one. Both take
- * any bytes whatever, and return one number; the functions below take it apart.
+ * Two calls, both in libkobdrieft.a: `kobdrieft_build` makes a plan, `kobdrieft_check` gives the verdict on
+ * one. Both take any bytes whatever, and return one number; the functions below take it apart, and read the
+ * plan.
  *
  * Pointers. The caller guarantees that each pointer is not NULL and readable for its length, `out` also
  * writable; that `out` overlaps nothing of `cluster`; and that nobody else writes to what is lent, or reads
- * `out`, during the call. The two arguments of `check` are only read and may overlap. A length of 0 needs a
- * pointer too: use kob_check and kob_build, which take any pointer then, NULL included.
+ * `out`, during the call. The two arguments of `kobdrieft_check` are only read and may overlap. A length of 0
+ * needs a pointer too: use kob_check and kob_build, which take any pointer then, NULL included.
  *
  * Threads. There is no state: any number of threads may call at once, each with an `out` of its own.
  *
- * Stack. Measured on full rooms, x86-64: `check` takes 91,391 bytes (512 steps), `build` 175,183 (500
- * steps). A step takes 112 bytes and a built plan has at most 511, so `build` should take 176,415 at most.
- * Give a thread KOB_CHECK_STACK or KOB_BUILD_STACK, and what it needs itself.
+ * Stack. Measured on full clusters, x86-64: `kobdrieft_check` takes 91,391 bytes (512 steps), `kobdrieft_build`
+ * 175,183 (500 steps). A step takes 112 bytes and a built plan has at most 511, so `kobdrieft_build` should
+ * take 176,415 at most. Give a thread KOB_CHECK_STACK or KOB_BUILD_STACK, and what it needs itself.
  *
  * No call allocates, does I/O, or calls anything but memcpy, memmove, memset and memcmp.
  */
@@ -22,16 +23,19 @@
 #include <stddef.h>
 #include <stdint.h>
 
+/* Grows whenever this interface does. */
+#define KOBDRIEFT_VERSION 1
+
 #ifdef __cplusplus
 extern "C" {
 #endif
 
 /* The verdict on a plan record for a cluster record. */
-uint64_t check(const uint8_t *cluster, size_t cluster_len, const uint8_t *plan, size_t plan_len);
+uint64_t kobdrieft_check(const uint8_t *cluster, size_t cluster_len, const uint8_t *plan, size_t plan_len);
 
 /* Plans for a cluster record. Of a plan and of blocked, the steps made stand as a plan record at the front
  * of `out`, and the bytes behind it are as they were; a refusal changes no byte. */
-uint64_t build(const uint8_t *cluster, size_t cluster_len, uint8_t *out, size_t out_len);
+uint64_t kobdrieft_build(const uint8_t *cluster, size_t cluster_len, uint8_t *out, size_t out_len);
 
 #ifdef __cplusplus
 }
@@ -43,20 +47,21 @@ uint64_t build(const uint8_t *cluster, size_t cluster_len, uint8_t *out, size_t 
 #define KOB_MAX_VMS 256
 #define KOB_MAX_CONSTRAINTS 128
 #define KOB_MAX_STEPS 512
+#define KOB_MAX_STEP_MOVES 256       /* in one step */
 #define KOB_MAX_MOVES 1024           /* in all steps of a plan together */
 #define KOB_MAX_CLUSTER_BYTES 65535
 #define KOB_MAX_PLAN_BYTES 3079
-#define KOB_BUILD_BUFFER 2051        /* `build` refuses a shorter `out` */
+#define KOB_BUILD_BUFFER 2051        /* `kobdrieft_build` refuses a shorter `out` */
 
-#define KOB_CHECK_STACK (96 * 1024)  /* `check` takes less than this */
-#define KOB_BUILD_STACK (192 * 1024) /* `build` takes less than this */
+#define KOB_CHECK_STACK (96 * 1024)  /* `kobdrieft_check` takes less than this */
+#define KOB_BUILD_STACK (192 * 1024) /* `kobdrieft_build` takes less than this */
 
 /* ---- what a result says */
 
 typedef enum {
-    KOB_ACCEPTED = 0, /* check: the plan is good */
-    KOB_PLAN = 0,     /* build: the plan brings every VM to its target */
-    KOB_BLOCKED = 1,  /* build: the steps made are sound, but the planner found no next one */
+    KOB_ACCEPTED = 0, /* kobdrieft_check: the plan is good */
+    KOB_PLAN = 0,     /* kobdrieft_build: the plan brings every VM to its target */
+    KOB_BLOCKED = 1,  /* kobdrieft_build: the steps made are sound, but the planner found no next one */
     KOB_REFUSED = 2   /* both: see the number */
 } kob_outcome;
 
@@ -77,13 +82,13 @@ static inline unsigned kob_refusal_step(uint64_t result)
     return kob_outcome_of(result) == KOB_REFUSED ? (unsigned)(result & 0xffff) : 0;
 }
 
-/* The steps that `build` made; 0 if it refused. */
+/* The steps that were built; 0 if refused. */
 static inline unsigned kob_steps(uint64_t result)
 {
     return kob_outcome_of(result) == KOB_REFUSED ? 0 : (unsigned)(result >> 53 & 0x1ff);
 }
 
-/* The moves in these steps; 0 if it refused. */
+/* The moves in these steps; 0 if refused. */
 static inline unsigned kob_moves(uint64_t result)
 {
     return kob_outcome_of(result) == KOB_REFUSED ? 0 : (unsigned)(result >> 44 & 0x1ff);
@@ -107,7 +112,7 @@ typedef enum {
     KOB_FAULT_CONSTRAINT = 7,
     KOB_FAULT_TARGET_OVERFULL = 8,
     KOB_FAULT_TARGET_BROKEN = 9,
-    KOB_FAULT_BUFFER_SHORT = 10, /* build only; those below: check only */
+    KOB_FAULT_BUFFER_SHORT = 10, /* kobdrieft_build only; those below: kobdrieft_check only */
     KOB_FAULT_PLAN_SHORT = 11,
     KOB_FAULT_PLAN_VERSION = 12,
     KOB_FAULT_PLAN_LENGTH = 13,
@@ -119,32 +124,14 @@ typedef enum {
     KOB_FAULT_OFF_TARGET = 19
 } kob_fault;
 
-/* One line in plain words for a refusal's number; never NULL. */
+/* What a refusal's number means, as docs/REFUSALS.md has it, in one line; never NULL. */
 static inline const char *kob_fault_text(unsigned number)
 {
-    static const char *const texts[] = {
-        "not refused",
-        "the cluster record has fewer than 11 bytes",
-        "the cluster record's version is not 1",
-        "the cluster record's stated length differs from the bytes lent, or exceeds 65,535",
-        "the cluster record's count of nodes, VMs or constraints is out of range",
-        "the rows and constraints do not fill the cluster record exactly",
-        "a VM row has memory 0, or a current or target node that is not there",
-        "a constraint has a wrong kind, wrong lists, or a VM or node that is not there",
-        "the target puts more memory or CPU on some node than it has",
-        "the target breaks a constraint",
-        "the output buffer is under 2,051 bytes",
-        "the plan record has fewer than 7 bytes",
-        "the plan record's version is not 1",
-        "the plan record's stated length differs from the bytes lent",
-        "a step or move count is out of range, or the steps do not fill the plan record",
-        "a move's VM or destination is not there, its VMs do not rise, or it goes where it is",
-        "a move's destination is banned or outside a fence",
-        "in some order of the step, a move does not fit when it begins",
-        "in some order of the step, a move meets a spread mate when it begins",
-        "after the last step some VM is off its target"
-    };
-    return number < sizeof texts / sizeof texts[0] ? texts[number] : "unknown number";
+    switch (number) {
+    case 0: return "Not refused.";
+#include "kobdrieft_texts.h"
+    default: return "Unknown number.";
+    }
 }
 
 /* ---- calls for which a length of 0 is fine with any pointer */
@@ -161,24 +148,162 @@ static inline uint8_t *kob_lent_out(uint8_t *bytes, size_t len)
     return len == 0 ? &none : bytes;
 }
 
-/* `check`, but with a length of 0 its pointer is not looked at and may be NULL. */
+/* `kobdrieft_check`, but with a length of 0 its pointer is not looked at and may be NULL. */
 static inline uint64_t kob_check(const uint8_t *cluster, size_t cluster_len, const uint8_t *plan,
                                  size_t plan_len)
 {
-    return check(kob_lent(cluster, cluster_len), cluster_len, kob_lent(plan, plan_len), plan_len);
+    return kobdrieft_check(kob_lent(cluster, cluster_len), cluster_len, kob_lent(plan, plan_len), plan_len);
 }
 
-/* `build`, but with a length of 0 its pointer is not looked at and may be NULL. */
+/* `kobdrieft_build`, but with a length of 0 its pointer is not looked at and may be NULL. */
 static inline uint64_t kob_build(const uint8_t *cluster, size_t cluster_len, uint8_t *out, size_t out_len)
 {
-    return build(kob_lent(cluster, cluster_len), cluster_len, kob_lent_out(out, out_len), out_len);
+    return kobdrieft_build(kob_lent(cluster, cluster_len), cluster_len, kob_lent_out(out, out_len), out_len);
 }
 
-/* The whole length that a plan record's header states; 5 bytes must be readable. After `build` made a plan
- * or was blocked it is the length of the record in `out`. */
+/* ---- numbers in records */
+
+/* The number in so many bytes, at most 4, big-endian. */
+static inline uint32_t kob_number(const uint8_t *bytes, unsigned count)
+{
+    uint32_t number = 0;
+    for (unsigned i = 0; i < count; i++)
+        number = number << 8 | bytes[i];
+    return number;
+}
+
+/* The whole length that a plan record's header states; 5 bytes must be readable. After `kobdrieft_build` made
+ * a plan or was blocked it is the length of the record in `out`. */
 static inline size_t kob_plan_length(const uint8_t *record)
 {
-    return (size_t)record[1] << 24 | (size_t)record[2] << 16 | (size_t)record[3] << 8 | (size_t)record[4];
+    return kob_number(record + 1, 4);
+}
+
+/* The node that a VM is on at the start, from a cluster record with none of the faults 1 to 9. Returns 0, and
+ * sets nothing, if the record has no such VM. Of other bytes it may give any node or none, but it never reads
+ * outside them. */
+static inline int kob_vm_current(const uint8_t *cluster, size_t cluster_len, unsigned vm, unsigned *node)
+{
+    const size_t header = 11, node_row = 5, vm_row = 7, current = 5;
+    if (cluster_len < header || cluster[0] != 1 || vm >= kob_number(cluster + 7, 2))
+        return 0;
+    size_t place = header + node_row * kob_number(cluster + 5, 2) + vm_row * vm + current;
+    if (place >= cluster_len)
+        return 0;
+    *node = cluster[place];
+    return 1;
+}
+
+/* ---- reading a plan record
+ *
+ *     kob_reader reader;
+ *     unsigned moves, vm, destination;
+ *     if (!kob_read_start(&reader, bytes, len))
+ *         ... the record is damaged
+ *     while (kob_read_step(&reader, &moves))
+ *         while (kob_read_move(&reader, &vm, &destination))
+ *             ... the next move of this step
+ *
+ * Any bytes may be read, and any pointer with a length of 0. No byte outside them is looked at, none is
+ * written, and of a damaged record no step is given. The bytes must stay where and as they are until reading
+ * has ended; a copy of a reader reads on by itself.
+ *
+ * Whole or damaged is a matter of shape alone, the faults 11 to 14. What a whole record's moves mean for a
+ * cluster, and whether their VMs and nodes are there, is what kob_check says. */
+
+/* Where reading is. For the functions below only. */
+typedef struct {
+    const uint8_t *bytes;
+    size_t len;
+    size_t at;           /* the next byte */
+    unsigned steps;      /* still to come */
+    unsigned moves;      /* of this step still to come */
+    unsigned moves_left; /* that the steps to come may have together */
+    unsigned move_bytes; /* that a move takes */
+    int whole;
+} kob_reader;
+
+/* The bytes that a move takes in a record of this version; 0 if there is no such version. */
+static inline unsigned kob_move_bytes(unsigned version)
+{
+    return version == 1 ? 2 : 0;
+}
+
+/* Ends the reading between two steps: no step is left. */
+static inline int kob_read_damaged(kob_reader *reader)
+{
+    reader->whole = 0;
+    reader->steps = 0;
+    return 0;
+}
+
+/* Reads the header, and says whether it is good. */
+static inline int kob_read_header(kob_reader *reader)
+{
+    const size_t header = 7;
+    if (reader->len < header || kob_plan_length(reader->bytes) != reader->len)
+        return kob_read_damaged(reader);
+    reader->move_bytes = kob_move_bytes(reader->bytes[0]);
+    reader->steps = kob_number(reader->bytes + 5, 2);
+    reader->at = header;
+    if (reader->move_bytes == 0 || reader->steps > KOB_MAX_STEPS)
+        return kob_read_damaged(reader);
+    return 1;
+}
+
+/* Goes to the next step, past any moves of this one that were not read, and gives the count of its moves, 1
+ * to 256. Returns 0 if there is no next step. */
+static inline int kob_read_step(kob_reader *reader, unsigned *moves)
+{
+    reader->at += (size_t)reader->moves * reader->move_bytes;
+    reader->moves = 0;
+    if (reader->steps == 0)
+        return reader->at == reader->len ? 0 : kob_read_damaged(reader);
+    if (reader->len - reader->at < 2)
+        return kob_read_damaged(reader);
+    unsigned count = kob_number(reader->bytes + reader->at, 2);
+    reader->at += 2;
+    if (count < 1 || count > KOB_MAX_STEP_MOVES || count > reader->moves_left
+        || count > (reader->len - reader->at) / reader->move_bytes)
+        return kob_read_damaged(reader);
+    reader->steps--;
+    reader->moves = count;
+    reader->moves_left -= count;
+    *moves = count;
+    return 1;
+}
+
+/* Gives the next move of this step: a VM, and the node it goes to. Returns 0 if the step has no more. */
+static inline int kob_read_move(kob_reader *reader, unsigned *vm, unsigned *destination)
+{
+    if (reader->moves == 0)
+        return 0;
+    *vm = reader->bytes[reader->at];
+    reader->at += reader->move_bytes;
+    *destination = reader->bytes[reader->at - 1];
+    reader->moves--;
+    return 1;
+}
+
+/* Whether the record is whole; once kob_read_step gave 0 this tells its end from damage. */
+static inline int kob_read_whole(const kob_reader *reader)
+{
+    return reader->whole;
+}
+
+/* Starts reading, before the first step. Goes over all steps once, and returns 1 if the record is whole; if
+ * not, 0, and no step is given. */
+static inline int kob_read_start(kob_reader *reader, const uint8_t *bytes, size_t len)
+{
+    const kob_reader start = {bytes, len, 0, 0, 0, KOB_MAX_MOVES, 0, 1};
+    unsigned moves;
+    *reader = start;
+    if (!kob_read_header(reader))
+        return 0;
+    kob_reader ahead = *reader;
+    while (kob_read_step(&ahead, &moves))
+        continue;
+    return kob_read_whole(&ahead) ? 1 : kob_read_damaged(reader);
 }
 
 #endif

@@ -5,7 +5,7 @@
 #include <stddef.h>
 #include <stdint.h>
 
-#include "kobdrieft.h"
+#include <kobdrieft.h>
 
 /* Counts one test; a failed one is named on standard error. */
 void expect(int good, const char *what);
@@ -21,6 +21,23 @@ struct record {
     size_t len;
 };
 
+/* Appends a number of so many bytes, big-endian. */
+void put(struct record *record, unsigned bytes, uint32_t number);
+
+/* Begins a plan record with so many steps; its length is not stated yet. */
+void put_plan(struct record *plan, uint32_t steps);
+
+void put_move(struct record *plan, uint32_t vm, uint32_t destination);
+
+/* States the whole length. */
+void finish(struct record *record);
+
+/* The next number of a fixed series. */
+uint32_t draw(void);
+
+/* Changes one to three bytes. */
+void damage(uint8_t *bytes, size_t len);
+
 /* Document 01's cluster A, and the plan for it: 3 steps, cost 16. */
 extern const uint8_t cluster_a[40];
 extern const uint8_t plan_a[19];
@@ -35,5 +52,22 @@ void full_plan(struct record *plan);
 /* Most nodes and VMs, planned in CHAIN_STEPS steps of one move. */
 void chains(struct record *cluster);
 #define CHAIN_STEPS 500
+
+/* Pages with an inaccessible one on either side. */
+struct fenced {
+    uint8_t *front;
+    size_t size;
+};
+
+enum side { FRONT, BACK };
+
+/* Pages for at least so many bytes. */
+struct fenced fence(size_t least);
+
+/* Room for so many bytes that begin, or end, at an inaccessible page. */
+uint8_t *at(const struct fenced *fenced, enum side side, size_t len);
+
+/* The same with a copy of these bytes, not to be written. */
+const uint8_t *lend(const struct fenced *fenced, enum side side, const uint8_t *bytes, size_t len);
 
 #endif

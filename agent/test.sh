@@ -1,22 +1,26 @@
 #!/usr/bin/env bash
-# Builds and tests the C side against libplanner.a and librules.a in LIBDIR:
+# Tests agent/lib.sh, and builds and tests the C side against libkobdrieft.a and kobdrieft.h in LIBDIR, which it made:
 #     agent/test.sh LIBDIR
-# Prints a line for each group; the last is `agent: N passed, M failed`. Status 1 if anything failed.
+# Prints a line for each group; the last is `agent: N passed, M failed`. Status 1 if anything failed, 3 for wrong use.
 set -u
-[ $# -eq 1 ] || { echo "usage: agent/test.sh LIBDIR" >&2; exit 2; }
+[ $# -eq 1 ] || { echo "usage: agent/test.sh LIBDIR" >&2; exit 3; }
 here=$(cd "$(dirname "$0")" && pwd)
-libs=$(cd "$1" && pwd) || exit 2
-for lib in planner rules; do
-  [ -f "$libs/lib$lib.a" ] || { echo "agent: no lib$lib.a in $libs" >&2; exit 2; }
+libs=$(cd "$1" && pwd) || exit 3
+for file in libkobdrieft.a kobdrieft.h; do
+  [ -f "$libs/$file" ] || { echo "agent: no $file in $libs" >&2; exit 3; }
 done
+archive=$libs/libkobdrieft.a
+refusals=$here/../docs/REFUSALS.md
+examples=$here/../examples
 work=$(mktemp -d)
 trap 'rm -rf "$work"' EXIT
 
 cc=${CC:-cc}
 cxx=${CXX:-c++}
-strict=(-std=c99 -Wall -Wextra -Werror -pedantic)
-sanitize=(-g -O1 -fsanitize=address,undefined -fno-sanitize-recover=all)
-link=(-L "$libs" -lplanner -lrules)
+strict=(-std=c99 -Wall -Wextra -Werror -pedantic -I "$libs")
+sanitize=(-g -O1 "-fsanitize=address,undefined" -fno-sanitize-recover=all)
+link=(-L "$libs" -lkobdrieft)
+link_strict="-Wl,--fatal-warnings"
 
 # ---- counting
 
@@ -61,80 +65,310 @@ run() {
   fi
 }
 
-# ---- the archives
+# ---- the archive
 
 # Nothing is called but the four memory functions, so no call allocates or does I/O.
 only_memory() {
-  ! nm -u "$libs/lib$1.a" | awk '$1 == "U" { print $2 }' | grep -vE '^mem(cpy|move|set|cmp)$'
+  local names
+  names=$(nm -u "$archive" | awk 'NF == 2 { print $2 }')
+  [ -n "$names" ] && ! grep -vE '^mem(cpy|move|set|cmp)$' <<<"$names"
 }
 
-exports_only() {
-  [ "$(nm -g --defined-only "$libs/lib$1.a" | awk 'NF == 3 { print $3 }')" = "$2" ]
+exports_two() {
+  [ "$(nm -g --defined-only "$archive" | awk 'NF == 3 { print $3 }' | sort)" = $'kobdrieft_build\nkobdrieft_check' ]
 }
 
 # No byte that can be written, so no state.
 no_data() {
-  size "$libs/lib$1.a" | awk 'NR > 1 && $2 + $3 > 0 { bad = 1 } END { exit bad }'
+  size "$archive" | awk 'NR > 1 && $2 + $3 > 0 { bad = 1 } END { exit bad }'
+}
+
+# takes_only NAME OTHER: whether a program that calls one of the two does not get the other too.
+takes_only() {
+  echo "void $1(void); int main(void) { $1(); }" >"$work/one.c"
+  "$cc" "$work/one.c" "${link[@]}" "$link_strict" -o "$work/one" || return
+  nm "$work/one" | grep -q " T $1\$" && ! nm "$work/one" | grep "$2"
+}
+
+# All of it, in a shared object that other programs may load anywhere.
+shared() {
+  "$cc" -shared -Wl,-z,text -Wl,--whole-archive "$archive" -Wl,--no-whole-archive "$link_strict" -o "$work/shared.so"
 }
 
 archives() {
-  local pair
-  for pair in planner:build rules:check; do
-    expect "lib${pair%:*}.a calls only memory functions" only_memory "${pair%:*}"
-    expect "lib${pair%:*}.a exports ${pair#*:} alone" exports_only "${pair%:*}" "${pair#*:}"
-    expect "lib${pair%:*}.a has no data" no_data "${pair%:*}"
+  expect "it calls only memory functions" only_memory
+  expect "it exports kobdrieft_build and kobdrieft_check alone" exports_two
+  expect "it has no data" no_data
+  expect "a program that only checks" takes_only kobdrieft_check kobdrieft_build
+  expect "a program that only plans" takes_only kobdrieft_build kobdrieft_check
+  expect "a shared object" shared
+  group "archive"
+}
+
+# ---- the texts
+
+# Number and meaning of each row of the tables in REFUSALS.md.
+documented() {
+  local number meaning
+  while IFS='|' read -r _ number meaning _; do
+    [[ $number =~ ^\ *[0-9]+\ *$ ]] && read -r number <<<"$number" && read -r meaning <<<"$meaning" &&
+      printf '%s %s\n' "$number" "${meaning//\`/}"
+  done <"$refusals" | sort -n
+}
+
+# text_of NUMBER: what it means.
+text_of() {
+  documented | sed -n "s/^$1 //p"
+}
+
+# A program that prints a number and its text for each that has one.
+texts_program() { # FOLDER-OF-HEADER
+  cat >"$work/texts.c" <<'END'
+#include <stdio.h>
+#include <string.h>
+#include <kobdrieft.h>
+int main(void)
+{
+    for (unsigned number = 1; number < 1000; number++)
+        if (strcmp(kob_fault_text(number), kob_fault_text(1000)) != 0)
+            printf("%u %s\n", number, kob_fault_text(number));
+    return 0;
+}
+END
+  "$cc" -I "$1" "${strict[@]}" "$work/texts.c" -o "$work/texts"
+}
+
+texts_are_documented() {
+  documented >"$work/documented"
+  [ "$(wc -l <"$work/documented")" -ge 19 ] && "$work/texts" | diff "$work/documented" -
+}
+
+texts() {
+  expect "a program of the texts" texts_program "$libs"
+  expect "the texts are those of REFUSALS.md" texts_are_documented
+  expect "nothing is left to include" test ! "$(grep -c kobdrieft_texts "$libs/kobdrieft.h")" -gt 0
+  group "texts"
+}
+
+# ---- agent/lib.sh, in a small repository whose archives are made here
+
+tree=$work/tree
+
+# library NAME CODE: an archive of this C code.
+library() {
+  echo "$2" >"$work/$1.c"
+  "$cc" -c "$work/$1.c" -o "$work/$1.o" && rm -f "$tree/static/lib$1.a" && ar rc "$tree/static/lib$1.a" "$work/$1.o"
+}
+
+# The small repository as it should be; both archives have a function `helper`.
+plant() {
+  rm -rf "$tree"
+  mkdir -p "$tree/agent" "$tree/docs" "$tree/static"
+  cp "$here/lib.sh" "$here/kobdrieft.h" "$tree/agent/"
+  cp "$refusals" "$tree/docs/"
+  library rules 'int helper(void) { return 1; } int check(void) { return helper(); }'
+  library planner 'int helper(void) { return 2; } int build(void) { return helper(); }'
+}
+
+lib() {
+  "$tree/agent/lib.sh" "$tree/static" "$tree/out"
+}
+
+# makes: lib.sh leaves its two files and nothing else.
+makes() {
+  lib && [ "$(ls -A "$tree/out")" = $'kobdrieft.h\nlibkobdrieft.a' ]
+}
+
+# refuses TEXT COMMAND...: lib.sh ends with status 4 and one sentence that has this text, and OUT-DIR stays as it was.
+refuses() {
+  local text=$1 ended
+  shift
+  mkdir -p "$tree/out"
+  echo before >"$tree/out/libkobdrieft.a"
+  "$@" 2>"$work/said"
+  ended=$?
+  cat "$work/said"
+  [ "$ended" -eq 4 ] && [ "$(wc -l <"$work/said")" -eq 1 ] && grep -qF -- "$text" "$work/said" &&
+    [ "$(ls -A "$tree/out")" = libkobdrieft.a ] && [ "$(cat "$tree/out/libkobdrieft.a")" = before ]
+}
+
+# Where a program has a `helper` too, all three are called.
+helpers_apart() {
+  cat >"$work/helpers.c" <<'END'
+int kobdrieft_check(void);
+int kobdrieft_build(void);
+int helper(void) { return 3; }
+int main(void) { return kobdrieft_check() == 1 && kobdrieft_build() == 2 && helper() == 3 ? 0 : 1; }
+END
+  "$cc" "$work/helpers.c" -L "$tree/out" -lkobdrieft -o "$work/helpers" && "$work/helpers"
+}
+
+# lib.sh on a PATH without one of its tools.
+without() {
+  local tool
+  rm -rf "$work/tools"
+  mkdir "$work/tools"
+  for tool in bash env dirname mkdir mktemp mv rm sort ld objcopy ar nm awk; do
+    [ "$tool" = "$1" ] || ln -s "$(command -v "$tool")" "$work/tools/$tool"
   done
-  expect "planner before rules" "$cc" "$here/agent.c" -L "$libs" -lplanner -lrules -o "$work/order"
-  expect "rules before planner" "$cc" "$here/agent.c" -L "$libs" -lrules -lplanner -o "$work/order"
-  group "archives"
+  PATH=$work/tools lib
+}
+
+lib_archives() {
+  local tool
+  plant
+  expect "lib.sh makes two files" makes
+  expect "lib.sh makes them again" makes
+  expect "names of both archives keep apart" helpers_apart
+  for tool in ld objcopy ar nm awk; do
+    plant
+    expect "no $tool" refuses "'$tool' is not on the PATH" without "$tool"
+  done
+  expect "all tools" without none
+  plant && rm "$tree/static/librules.a"
+  expect "no librules.a" refuses 'librules.a is missing' lib
+  plant && rm "$tree/static/libplanner.a"
+  expect "no libplanner.a" refuses 'libplanner.a is missing' lib
+  plant && library rules 'int checks(void) { return 1; }'
+  expect "no check in librules.a" refuses 'must define kobdrieft_build and kobdrieft_check alone' lib
+  plant && library planner 'int puts(const char *); int build(void) { return puts(""); }'
+  expect "a planner that prints" refuses 'calls puts' lib
+  plant && library rules '#include <string.h>
+int check(void *a, void *b) { return memcpy(a, b, 99) == a; }'
+  expect "a checker that copies" makes
+  expect "lib.sh with one argument" wrong_use
+}
+
+wrong_use() {
+  "$tree/agent/lib.sh" "$tree/static"
+  [ $? -eq 3 ]
+}
+
+# edited FILE SED-SCRIPT TEXT: what lib.sh says when a file is otherwise.
+edited() {
+  plant
+  sed -i "$2" "$tree/$1"
+  expect "$1 changed by $2" refuses "$3" lib
+}
+
+lib_texts() {
+  local page=docs/REFUSALS.md
+  edited $page '/^| 1 |/d' 'number 1 is missing'
+  edited $page '/^| 7 |/d' 'number 7 is missing'
+  edited $page '/^| 19 |/d' 'number 19 is missing'
+  edited $page '/^| 7 |/p' 'number 7 is there twice'
+  edited $page 's/^| 7 |/| 8 |/' 'number 8 is there twice'
+  edited $page 's/^| 7 |/| 99 |/' 'number 99 is not in kob_fault'
+  edited $page 's/^| 7 | [^|]*|/| 7 | |/' 'is no row'
+  edited $page 's/^| 7 |/| 7 | more |/' 'is no row'
+  edited $page 's/^| 7 |/| seven |/' 'is no row'
+  edited $page 's/what it means/meaning/' 'number 1 is missing'
+  edited agent/kobdrieft.h '/kobdrieft_texts/d' 'must have the line'
+  edited agent/kobdrieft.h '/kobdrieft_texts/p' 'must have the line'
+}
+
+# A later number, and all that needs care in a C string.
+later_text() {
+  plant
+  sed -i 's/^    KOB_FAULT_OFF_TARGET = 19/&,\n    KOB_FAULT_LATER_2 = 934/' "$tree/agent/kobdrieft.h"
+  # shellcheck disable=SC2016
+  printf '\n| number | what it means | what to do |\n|--:|---|---|\n| 934 | %s | x |\n' \
+    'A `code` "quote", a \n, 100% of ??/ & what?' >>"$tree/docs/REFUSALS.md"
+  lib && texts_program "$tree/out" && "$work/texts" >"$work/said" && cat "$work/said" &&
+    [ "$(tail -n 1 "$work/said")" = '934 A code "quote", a \n, 100% of ??/ & what?' ] &&
+    [ "$(head -n -1 "$work/said")" = "$(documented)" ]
+}
+
+lib_tests() {
+  lib_archives
+  lib_texts
+  expect "a later number" later_text
+  group "lib.sh"
 }
 
 # ---- building
 
-# builds LABEL FLAGS...: the agent and the test of the header.
+# program LABEL NAME SOURCES... -- FLAGS...: builds a program from files of this folder.
+program() {
+  local label=$1 name=$2 sources=()
+  shift 2
+  while [ "$1" != -- ]; do
+    sources+=("$here/$1")
+    shift
+  done
+  shift
+  expect "$label $name" "$cc" "${strict[@]}" "$@" "${sources[@]}" "${link[@]}" "$link_strict" -o "$work/$label/$name"
+}
+
+# builds LABEL FLAGS...: the agent, and the tests of the header.
 builds() {
   local label=$1
   shift
   mkdir -p "$work/$label"
-  expect "$label agent" "$cc" "${strict[@]}" "$@" "$here/agent.c" "${link[@]}" -o "$work/$label/agent"
-  expect "$label test_header" "$cc" "${strict[@]}" "$@" "$here/test_header.c" "$here/test_common.c" \
-    "${link[@]}" -o "$work/$label/test_header"
+  program "$label" agent agent.c -- "$@"
+  program "$label" test_header test_header.c test_common.c test_pages.c -- "$@"
+  program "$label" test_reader test_reader.c test_common.c test_pages.c -- "$@"
+  program "$label" test_names test_names.c test_common.c -- "$@"
   group "$label: built without a warning"
 }
 
 # The test of threads and stacks, and the example of README.md.
 more_builds() {
-  expect "test_threads" "$cc" "${strict[@]}" -O2 -pthread "$here/test_threads.c" "$here/test_common.c" \
-    "${link[@]}" -o "$work/plain/test_threads"
+  program plain test_threads test_threads.c test_common.c -- -O2 -pthread
+  # shellcheck disable=SC2016
   sed -n '/^```c$/,/^```$/p' "$here/README.md" | sed '1d;$d' >"$work/example.c"
-  expect "the example" "$cc" "${strict[@]}" -I "$here" "$work/example.c" "${link[@]}" -o "$work/example"
-  expect "the example on A" example_says 'steps 3, moves 3, accepted' "$work/a"
+  expect "the example" "$cc" "${strict[@]}" "$work/example.c" "${link[@]}" -o "$work/example"
+  expect "the example on A" example_says $'steps 3, moves 3, accepted\n1: VM 0 to 2\n2: VM 1 to 0\n3: VM 0 to 1' "$work/a"
   expect "the example, blocked" example_says 'steps 0, moves 0, blocked' "$work/stuck"
-  expect "the example, refused" example_says 'a VM row has memory 0' "$work/damaged"
+  expect "the example, refused" example_says "$(text_of 6)" "$work/damaged"
   group "threads and example: built"
 }
 
+# Whether the example prints just this.
 example_says() {
-  "$work/example" <"$2" | grep -F "$1"
+  local said
+  said=$("$work/example" <"$2")
+  echo "$said"
+  [ "$said" = "$1" ]
 }
 
 cplusplus() {
+  local standard
   if ! command -v "$cxx" >/dev/null; then
     echo "C++: skipped, no compiler"
     return
   fi
   cat >"$work/header.cc" <<'END'
-#include "kobdrieft.h"
-int main()
+#include <kobdrieft.h>
+
+static bool refuses_nothing()
 {
     unsigned char out[KOB_BUILD_BUFFER];
     return kob_refusal_number(kob_build(nullptr, 0, out, sizeof out)) == KOB_FAULT_CLUSTER_SHORT
-           && kob_refusal_number(kob_check(nullptr, 0, nullptr, 0)) == KOB_FAULT_CLUSTER_SHORT ? 0 : 1;
+           && kob_refusal_number(kob_check(nullptr, 0, nullptr, 0)) == KOB_FAULT_CLUSTER_SHORT
+           && kob_fault_text(KOB_FAULT_CLUSTER_SHORT)[0] != 0;
+}
+
+static bool reads_a_plan()
+{
+    const unsigned char plan[] = {1, 0, 0, 0, 11, 0, 1, 0, 1, 7, 9};
+    kob_reader reader;
+    unsigned moves, vm, destination;
+    return kob_read_start(&reader, plan, sizeof plan) && kob_read_step(&reader, &moves)
+           && kob_read_move(&reader, &vm, &destination) && vm == 7 && destination == 9
+           && !kob_read_step(&reader, &moves) && kob_read_whole(&reader);
+}
+
+int main()
+{
+    return refuses_nothing() && reads_a_plan() ? 0 : 1;
 }
 END
-  expect "the header as C++" "$cxx" -Wall -Wextra -Werror -I "$here" "$work/header.cc" "${link[@]}" \
-    -o "$work/header"
-  expect "calls from C++" "$work/header"
+  for standard in c++11 c++17 c++20; do
+    expect "the header as $standard" "$cxx" -std=$standard -Wall -Wextra -Werror -pedantic -I "$libs" "$work/header.cc" \
+      "${link[@]}" -o "$work/header"
+    expect "calls from $standard" "$work/header"
+  done
   group "C++"
 }
 
@@ -142,8 +376,11 @@ END
 
 # record FILE HEX: a file of these bytes.
 record() {
-  local hex=${2// /}
-  printf "$(sed 's/../\\x&/g' <<<"$hex")" >"$1"
+  local pair
+  for pair in $(fold -w 2 <<<"${2//[$' \n']/}"); do
+    # shellcheck disable=SC2059
+    printf "\\x$pair"
+  done >"$1"
 }
 
 # padded FILE HEX LENGTH: the same, with zeros up to a length.
@@ -157,6 +394,10 @@ files() {
   record "$work/a" "01 00000028 0003 0002 0000 $nodes 0000040064 $vms"
   record "$work/plan" '01 00000013 0003 0001 00 02 0001 01 00 0001 00 01'
   record "$work/stuck" "01 00000028 0003 0002 0000 $nodes 0000010064 $vms"
+  record "$work/five" "01 00000028 0003 0002 0000 0000050064 0000050064 0000050064 $vms"
+  record "$work/half" '01 0000002f 0003 0003 0000 0000040064 0000020064 0000010064
+    000002000a 02 00 000002000a 01 00 000002000a 00 01'
+  record "$work/half-plan" '01 0000000b 0001 0001 00 00'
   record "$work/no-steps" '01 00000007 0000'
   record "$work/damaged" "01 00000028 0003 0002 0000 $nodes 0000040064 0000000032 00 01 0000020032 01 00"
   record "$work/overfull" "01 00000028 0003 0002 0000 0000010064 0000040064 0000040064 $vms"
@@ -197,18 +438,60 @@ piped() {
     writes 0 'steps 3, moves 3, cost 16' "$work/plan" /dev/stdin
 }
 
+# prints LINES ARGUMENT...: whether these are the agent's lines for moves.
+prints() {
+  local lines=$1
+  shift
+  "$agent" "$@" "$work/got" >"$work/said"
+  cat "$work/said"
+  [ "$(tail -n +2 "$work/said")" = "$lines" ]
+}
+
+# The agent's first line as the planning program prints it.
+planning_line() {
+  head -n 1 "$1" | sed -E 's/^agent: (plan|blocked): (steps [0-9]+), (moves [0-9]+), (cost [0-9]+);.*/\1 \2 \3 \4/
+    s/^agent: refused, number ([0-9]+); .*/refused \1 step 0/'
+}
+
+# as_expected NAME: whether the agent says of an example what the planning program does, and ends as it should.
+as_expected() {
+  local name=$1 status wanted=0
+  "$agent" "$examples/$name.cluster" "$work/got" >"$work/said"
+  status=$?
+  case $(cat "$examples/$name.expected") in
+  blocked*) wanted=1 ;;
+  refused*) wanted=2 ;;
+  esac
+  [ "$status" -eq "$wanted" ] && { planning_line "$work/said"; tail -n +2 "$work/said"; } | diff "$examples/$name.expected" -
+}
+
+agent_moves() {
+  local expected
+  expect "A's moves" prints $'1 0 0 2\n2 1 1 0\n3 0 2 1' "$work/a"
+  expect "two moves in a step" prints $'1 0 0 1\n1 1 1 0' "$work/five"
+  expect "moves, then blocked" prints '1 0 2 0' "$work/half"
+  expect "moves, then blocked, kept" prints '1 0 2 0' --keep-blocked "$work/half"
+  expect "no moves" prints '' "$work/stuck"
+  expect "refused" prints '' "$work/damaged"
+  for expected in "$examples"/*.expected; do
+    expect "$expected" as_expected "$(basename "$expected" .expected)"
+  done
+}
+
 agent_answers() {
   expect "A is planned" writes 0 'plan: steps 3, moves 3, cost 16; written' "$work/plan" "$work/a"
   expect "A from a pipe" piped
   expect "node 2 memory 1" keeps 1 'blocked: steps 0, moves 0, cost 0; nothing written' "$work/stuck"
   expect "blocked, kept" writes 1 'these steps written' "$work/no-steps" --keep-blocked "$work/stuck"
+  expect "blocked after a step" keeps 1 'blocked: steps 1, moves 1, cost 2; nothing written' "$work/half"
+  expect "blocked after a step, kept" writes 1 'these steps written' "$work/half-plan" --keep-blocked "$work/half"
   expect "a plan, blocked kept" writes 0 'plan: steps 3' "$work/plan" --keep-blocked "$work/a"
-  expect "memory 0" keeps 2 'refused, number 6: a VM row has memory 0' "$work/damaged"
-  expect "target overfull" keeps 2 'refused, number 8: ' "$work/overfull"
-  expect "an empty file" keeps 2 'refused, number 1: ' "$work/empty"
-  expect "70,000 bytes" keeps 2 'refused, number 3: ' "$work/long"
-  expect "65,536 bytes, stated" keeps 2 'refused, number 3: ' "$work/over"
-  expect "65,535 bytes, stated" keeps 2 'refused, number 5: ' "$work/most"
+  expect "memory 0" keeps 2 "refused, number 6; nothing written. $(text_of 6)" "$work/damaged"
+  expect "target overfull" keeps 2 'refused, number 8; nothing written. ' "$work/overfull"
+  expect "an empty file" keeps 2 'refused, number 1; nothing written. ' "$work/empty"
+  expect "70,000 bytes" keeps 2 'refused, number 3; nothing written. ' "$work/long"
+  expect "65,536 bytes, stated" keeps 2 'refused, number 3; nothing written. ' "$work/over"
+  expect "65,535 bytes, stated" keeps 2 'refused, number 5; nothing written. ' "$work/most"
 }
 
 agent_faults() {
@@ -217,26 +500,35 @@ agent_faults() {
   expect "no folder to write to" says 3 'cannot write' "$work/a" "$work/nowhere/plan"
   if [ -c /dev/full ]; then
     expect "a full disk" says 3 'cannot write' "$work/a" /dev/full
+    expect "nowhere to print a plan" unheard "$work/a"
+    expect "nowhere to print a refusal" unheard "$work/damaged"
   fi
-  expect "no arguments" says 4 'usage: '
-  expect "one argument" says 4 'usage: ' "$work/a"
-  expect "three arguments" keeps 4 'usage: ' "$work/a" "$work/got"
-  expect "an unknown option" keeps 4 'usage: ' --force "$work/a"
+  expect "no arguments" says 3 'usage: '
+  expect "one argument" says 3 'usage: ' "$work/a"
+  expect "three arguments" keeps 3 'usage: ' "$work/a" "$work/got"
+  expect "an unknown option" keeps 3 'usage: ' --force "$work/a"
+}
+
+# unheard CLUSTER: whether the agent says that its lines got lost.
+unheard() {
+  "$agent" "$1" "$work/got" >/dev/full 2>"$work/said"
+  [ $? -eq 3 ] && grep -F 'cannot write standard output' "$work/said"
 }
 
 agents() {
   agent=$work/$1/agent
+  agent_moves
   agent_answers
   agent_faults
   group "$1: agent"
 }
 
-# The agent with libraries that disagree.
+# The agent with a planner and a checker that disagree.
 wrong() {
   local i
   agent=$work/wrong
-  for i in 1 2 3 4 5 6 7 8; do
-    expect "wrong libraries $i" "$cc" "${strict[@]}" "${sanitize[@]}" -DWRONG=$i "$here/agent.c" \
+  for i in 1 2 3 4 5 6 7 8 9; do
+    expect "wrong library $i" "$cc" "${strict[@]}" "${sanitize[@]}" -DWRONG=$i "$here/agent.c" \
       "$here/test_wrong.c" -o "$agent"
     expect "disagreement $i" keeps 5 'planner and checker disagree' --keep-blocked "$work/a"
   done
@@ -244,13 +536,18 @@ wrong() {
 }
 
 files
+lib_tests
 archives
+texts
 builds plain -O2
 builds sanitized "${sanitize[@]}"
 more_builds
 cplusplus
-run plain "$work/plain/test_header"
-run sanitized "$work/sanitized/test_header"
+for label in plain sanitized; do
+  for name in test_names test_header test_reader; do
+    run "$label" "$work/$label/$name"
+  done
+done
 run plain "$work/plain/test_threads"
 agents plain
 agents sanitized

@@ -38,8 +38,7 @@ const uint8_t plan_a[19] = {1, 0, 0, 0, 19, 0, 3, 0, 1, 0, 2, 0, 1, 1, 0, 0, 1, 
 
 /* ---- writing records */
 
-/* Appends a number of so many bytes, big-endian. */
-static void put(struct record *record, unsigned bytes, uint32_t number)
+void put(struct record *record, unsigned bytes, uint32_t number)
 {
     while (bytes-- > 0)
         record->bytes[record->len++] = (uint8_t)(number >> 8 * bytes);
@@ -69,13 +68,44 @@ static void put_vm(struct record *cluster, uint32_t memory, uint32_t cpu, uint32
     put(cluster, 1, target);
 }
 
-/* States the whole length. */
-static void finish(struct record *record)
+void finish(struct record *record)
 {
     size_t end = record->len;
     record->len = 1;
     put(record, 4, (uint32_t)end);
     record->len = end;
+}
+
+void put_plan(struct record *plan, uint32_t steps)
+{
+    plan->len = 0;
+    put(plan, 1, 1);
+    put(plan, 4, 0);
+    put(plan, 2, steps);
+}
+
+void put_move(struct record *plan, uint32_t vm, uint32_t destination)
+{
+    put(plan, 1, vm);
+    put(plan, 1, destination);
+}
+
+/* ---- damage */
+
+/* (xorshift) */
+uint32_t draw(void)
+{
+    static uint32_t state = 2463534242u;
+    state ^= state << 13;
+    state ^= state >> 17;
+    state ^= state << 5;
+    return state;
+}
+
+void damage(uint8_t *bytes, size_t len)
+{
+    for (uint32_t left = 1 + draw() % 3; left > 0; left--)
+        bytes[draw() % len] = draw() % 2 == 0 ? (uint8_t)draw() : (uint8_t)(draw() % 4);
 }
 
 /* ---- the full room and its plan */
@@ -112,19 +142,10 @@ void full_room(struct record *cluster)
     finish(cluster);
 }
 
-static void put_move(struct record *plan, uint32_t vm, uint32_t destination)
-{
-    put(plan, 1, vm);
-    put(plan, 1, destination);
-}
-
 /* First all VMs but VM 0 go home. Then VM 0 goes to and fro, 511 times, and VM 1 with it 258 times. */
 void full_plan(struct record *plan)
 {
-    plan->len = 0;
-    put(plan, 1, 1);
-    put(plan, 4, 0);
-    put(plan, 2, KOB_MAX_STEPS);
+    put_plan(plan, KOB_MAX_STEPS);
     put(plan, 2, 255);
     for (uint32_t i = 1; i < KOB_MAX_VMS; i++)
         put_move(plan, i, (i + 1) % 64);

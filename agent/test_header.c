@@ -1,10 +1,6 @@
-/* Tests of kobdrieft.h, and of the two libraries as C sees them. */
-#define _DEFAULT_SOURCE
-#include <stdio.h>
+/* Tests of kobdrieft.h but its reader, and of the library as C sees it. */
 #include <stdlib.h>
 #include <string.h>
-#include <sys/mman.h>
-#include <unistd.h>
 
 #include "test.h"
 
@@ -73,9 +69,10 @@ static void test_texts(void)
     }
     expect(strstr(kob_fault_text(KOB_FAULT_CLUSTER_SHORT), "11 bytes") != NULL, "text 1");
     expect(strstr(kob_fault_text(KOB_FAULT_BUFFER_SHORT), "2,051") != NULL, "text 10");
-    expect(strstr(kob_fault_text(KOB_FAULT_OFF_TARGET), "off its target") != NULL, "text 19");
-    expect(strcmp(kob_fault_text(20), "unknown number") == 0, "text of 20");
-    expect(strcmp(kob_fault_text(~0u), "unknown number") == 0, "text of the largest number");
+    expect(strstr(kob_fault_text(KOB_FAULT_OFF_TARGET), "target") != NULL, "text 19");
+    expect(strcmp(kob_fault_text(256), "Unknown number.") == 0, "text of 256");
+    expect(strcmp(kob_fault_text(~0u), "Unknown number.") == 0, "text of the largest number");
+    expect(KOBDRIEFT_VERSION >= 1, "the interface's version");
     group("texts");
 }
 
@@ -196,51 +193,10 @@ static void test_cluster_a(void)
 
 /* ---- records that lie against inaccessible pages */
 
-/* Pages with an inaccessible one on either side. */
-struct fenced {
-    uint8_t *front;
-    size_t size;
-};
-
-enum side { FRONT, BACK };
-
-static void must(int good, const char *what)
-{
-    if (!good) {
-        perror(what);
-        exit(1);
-    }
-}
-
-static struct fenced fence(size_t least)
-{
-    size_t page = (size_t)sysconf(_SC_PAGESIZE);
-    size_t size = (least + page - 1) / page * page;
-    uint8_t *all = mmap(NULL, size + 2 * page, PROT_NONE, MAP_PRIVATE | MAP_ANONYMOUS, -1, 0);
-    must(all != MAP_FAILED, "mmap");
-    struct fenced fenced = {all + page, size};
-    return fenced;
-}
-
-/* Room for so many bytes that begin, or end, at an inaccessible page. */
-static uint8_t *at(const struct fenced *fenced, enum side side, size_t len)
-{
-    must(mprotect(fenced->front, fenced->size, PROT_READ | PROT_WRITE) == 0, "mprotect");
-    return side == FRONT ? fenced->front : fenced->front + fenced->size - len;
-}
-
-/* The same with a copy of these bytes, not to be written. */
-static const uint8_t *lend(const struct fenced *fenced, enum side side, const uint8_t *bytes, size_t len)
-{
-    uint8_t *place = at(fenced, side, len);
-    memcpy(place, bytes, len);
-    must(mprotect(fenced->front, fenced->size, PROT_READ) == 0, "mprotect");
-    return place;
-}
-
 static struct fenced cluster_fence, plan_fence;
 
-/* Whether `check` gives the same against the pages, each record at either side, as in plain memory. */
+/* Whether `kobdrieft_check` gives the same against the pages, each record at either side, as in plain
+ * memory. */
 static int check_stays(const uint8_t *cluster, size_t cluster_len, const uint8_t *plan, size_t plan_len)
 {
     uint64_t plain = kob_check(cluster, cluster_len, plan, plan_len);
@@ -248,12 +204,12 @@ static int check_stays(const uint8_t *cluster, size_t cluster_len, const uint8_t
     for (int sides = 0; sides < 4; sides++) {
         const uint8_t *c = lend(&cluster_fence, sides & 1 ? BACK : FRONT, cluster, cluster_len);
         const uint8_t *p = lend(&plan_fence, sides & 2 ? BACK : FRONT, plan, plan_len);
-        same = same && check(c, cluster_len, p, plan_len) == plain;
+        same = same && kobdrieft_check(c, cluster_len, p, plan_len) == plain;
     }
     return same;
 }
 
-/* Whether `build` into so many bytes gives the same against the pages as in plain memory, bytes included. */
+/* The same of `kobdrieft_build` into so many bytes; these, and those around them, are looked at too. */
 static int build_stays(const uint8_t *cluster, size_t cluster_len, size_t out_len)
 {
     uint8_t *plain = filled(out_len + 1);
@@ -263,7 +219,8 @@ static int build_stays(const uint8_t *cluster, size_t cluster_len, size_t out_le
         const uint8_t *c = lend(&cluster_fence, sides & 1 ? BACK : FRONT, cluster, cluster_len);
         uint8_t *out = at(&plan_fence, sides & 2 ? BACK : FRONT, out_len);
         memset(plan_fence.front, FILL, plan_fence.size);
-        same = same && build(c, cluster_len, out, out_len) == result && memcmp(out, plain, out_len) == 0;
+        same = same && kobdrieft_build(c, cluster_len, out, out_len) == result;
+        same = same && memcmp(out, plain, out_len) == 0;
         size_t before = (size_t)(out - plan_fence.front);
         same = same && all_are(plan_fence.front, before, FILL);
         same = same && all_are(out + out_len, plan_fence.size - before - out_len, FILL);
@@ -302,23 +259,6 @@ static void test_large(void)
     memcpy(over.bytes, "\1\0\1\0\0", 5);
     expect(kob_check(over.bytes, 65536, plan.bytes, plan.len) == refused(3, 0), "65,536 bytes give 3");
     expect(build_stays(over.bytes, 65536, KOB_BUILD_BUFFER), "build of 65,536 bytes");
-}
-
-/* The next number of a fixed series (xorshift). */
-static uint32_t draw(void)
-{
-    static uint32_t state = 2463534242u;
-    state ^= state << 13;
-    state ^= state >> 17;
-    state ^= state << 5;
-    return state;
-}
-
-/* Changes one to three bytes. */
-static void damage(uint8_t *bytes, size_t len)
-{
-    for (uint32_t left = 1 + draw() % 3; left > 0; left--)
-        bytes[draw() % len] = draw() % 2 == 0 ? (uint8_t)draw() : (uint8_t)(draw() % 4);
 }
 
 /* A and its plan with bytes changed, the stated lengths among them. */

@@ -1,5 +1,5 @@
-/* Libraries that disagree, one way for each value of WRONG, to see the agent say so. */
-#include "kobdrieft.h"
+/* Planners and checkers that disagree, one way for each value of WRONG, to see the agent say so. */
+#include <kobdrieft.h>
 
 #if WRONG == 1 /* another cost */
 #define BUILT ((uint64_t)16)
@@ -22,12 +22,12 @@
 #elif WRONG == 7 /* no outcome that there is */
 #define BUILT ((uint64_t)3 << 62)
 #define CHECKED BUILT
-#else /* a record longer than the buffer */
+#else /* 8: a record longer than the buffer; 9: a damaged one */
 #define BUILT ((uint64_t)16)
 #define CHECKED BUILT
 #endif
 
-uint64_t build(const uint8_t *cluster, size_t cluster_len, uint8_t *out, size_t out_len)
+uint64_t kobdrieft_build(const uint8_t *cluster, size_t cluster_len, uint8_t *out, size_t out_len)
 {
     (void)cluster, (void)cluster_len, (void)out_len;
     for (int i = 0; i < 7; i++)
@@ -35,10 +35,11 @@ uint64_t build(const uint8_t *cluster, size_t cluster_len, uint8_t *out, size_t 
     out[0] = 1;
     out[3] = WRONG == 8 ? 9 : 0;
     out[4] = 7;
+    out[6] = WRONG == 9 ? 1 : 0;
     return BUILT;
 }
 
-uint64_t check(const uint8_t *cluster, size_t cluster_len, const uint8_t *plan, size_t plan_len)
+uint64_t kobdrieft_check(const uint8_t *cluster, size_t cluster_len, const uint8_t *plan, size_t plan_len)
 {
     (void)cluster, (void)cluster_len, (void)plan, (void)plan_len;
     return CHECKED;

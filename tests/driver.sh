@@ -58,20 +58,54 @@ a_plan=$(cat "$root/crates/plan/stdout")
 files() { find "$1" -path "$1/target" -prune -o -type f -print | sort; }
 before=$(files .)
 
-# what the programs print
+# what the programs print; what a refusal means goes to standard error
 expect 'a plan' 0 "$a_plan" '' "$driver" plan 'cluster A'
 expect 'blocked' 1 'blocked steps 0 moves 0 cost 0' '' "$driver" plan blocked
-expect 'no record to plan' 1 'refused 1 step 0' '' "$driver" plan empty
+expect 'no record to plan' 2 'refused 1 step 0' 'kobdrieft: The cluster record has fewer than 11 bytes.' "$driver" plan empty
 expect 'accepted' 0 'accepted cost 16' '' "$driver" check 'cluster A' 'plan A'
-expect 'off target' 1 'refused 19 step 0' '' "$driver" check 'cluster A' none
-expect 'does not fit' 1 'refused 17 step 1' '' "$driver" check 'cluster A' both
-expect 'no record to check' 1 'refused 1 step 0' '' "$driver" check empty 'plan A'
-expect 'no plan to check' 1 'refused 11 step 0' '' "$driver" check 'cluster A' empty
-expect 'a long cluster' 1 'refused 3 step 0' '' "$driver" check longer 'plan A'
-expect 'a full buffer of plan' 1 'refused 14 step 0' '' "$driver" check 'cluster A' long
-expect 'a long plan, another length stated' 1 'refused 13 step 0' '' "$driver" check 'cluster A' longer
-expect 'a long plan, its length stated' 1 'refused 14 step 0' '' "$driver" check 'cluster A' honest
-expect 'a long plan, another version' 1 'refused 12 step 0' '' "$driver" check 'cluster A' versioned
+expect 'off target' 2 'refused 19 step 0' 'kobdrieft: Every step is sound, but after the last some VM is off its target.' "$driver" check 'cluster A' none
+expect 'does not fit' 2 'refused 17 step 1' 'kobdrieft: In some order*' "$driver" check 'cluster A' both
+expect 'no record to check' 2 'refused 1 step 0' '*fewer than 11 bytes*' "$driver" check empty 'plan A'
+expect 'no plan to check' 2 'refused 11 step 0' '*fewer than 7 bytes*' "$driver" check 'cluster A' empty
+expect 'a long cluster' 2 'refused 3 step 0' 'kobdrieft: *' "$driver" check longer 'plan A'
+expect 'a full buffer of plan' 2 'refused 14 step 0' 'kobdrieft: *' "$driver" check 'cluster A' long
+expect 'a long plan, another length stated' 2 'refused 13 step 0' 'kobdrieft: *' "$driver" check 'cluster A' longer
+expect 'a long plan, its length stated' 2 'refused 14 step 0' 'kobdrieft: *' "$driver" check 'cluster A' honest
+expect 'a long plan, another version' 2 'refused 12 step 0' 'kobdrieft: *' "$driver" check 'cluster A' versioned
+
+# the plan record
+written() { "$driver" plan "$1" "$2" && od -An -v -tx1 "$2" | tr -d ' \n'; }
+kept() { # COMMAND.. OUT: what is in OUT behind a command that writes nothing
+  echo before >"${!#}"
+  "$@"
+  local status=$?
+  cat "${!#}"
+  return "$status"
+}
+expect 'a plan, written' 0 "$a_plan"$'\n'"$(od -An -v -tx1 'plan A' | tr -d ' \n')" '' written 'cluster A' ../out
+expect 'blocked, written' 1 'blocked steps 0 moves 0 cost 0' '' "$driver" plan blocked ../out
+expect 'the steps made' 0 '' '' cmp none ../out
+expect 'refused, not written' 2 $'refused 1 step 0\nbefore' 'kobdrieft: *' kept "$driver" plan empty ../out
+expect 'the planned record is accepted' 0 'accepted cost 16' '' bash -c '"$0" plan "cluster A" ../out >/dev/null && "$0" check "cluster A" ../out' "$driver"
+expect 'over the cluster record' 3 '' 'kobdrieft: the plan would be written over the cluster record: *' "$driver" plan 'cluster A' "$PWD/cluster A"
+expect 'no folder to write to' 3 '' 'plan: cannot write nowhere/plan: No such file or directory' "$driver" plan 'cluster A' nowhere/plan
+expect 'a full disk' 3 '' 'plan: cannot write /dev/full: No space left on device' "$driver" plan 'cluster A' /dev/full
+
+# a read that fails is told, and is no verdict
+expect 'plan: a read that fails' 3 '' 'plan: cannot read standard input: Input/output error' "$driver" plan /proc/self/mem
+expect 'check: a read that fails' 3 '' 'verdict: cannot read /proc/self/mem: Input/output error' "$driver" check 'cluster A' /proc/self/mem
+
+# text, pages and the library
+expect 'a record as text' 0 '' '' "$driver" unpack 'cluster A' ../text
+expect 'a record from text' 0 '' '' "$driver" pack ../text ../packed
+expect 'the same record' 0 '' '' cmp 'cluster A' ../packed
+expect 'a plan record as text' 0 '' '' "$driver" unpack-plan 'plan A' ../text
+expect 'a plan record from text' 0 '' '' "$driver" pack-plan ../text ../packed
+expect 'the same plan record' 0 '' '' cmp 'plan A' ../packed
+expect 'a page' 0 '' '' "$driver" draw 'cluster A' 'plan A' ../page.html
+expect 'whose verdict' 0 '1' '' bash -c 'grep -c "proved checker" ../page.html'
+expect 'a page of no plan' 2 '' 'room: *' "$driver" draw 'cluster A' empty ../page.html
+expect 'a page from a pipe' 3 '' 'kobdrieft: draw reads its files twice*' "$driver" draw <(cat 'cluster A') 'plan A' ../page.html
 
 # where the files are
 expect 'a name like an option' 0 'accepted cost 16' '' "$driver" check 'cluster A' -plan
@@ -86,17 +120,19 @@ expect 'through a link of a link' 0 'accepted cost 16' '' ../links/'of a link' c
 
 # wrong use
 expect 'help' 0 "$("$driver" --help)" '' "$driver" help
-expect 'no command' 2 '' 'usage: kobdrieft plan CLUSTER*' "$driver"
-expect 'another command' 2 '' 'kobdrieft: no such command: plans*usage:*' "$driver" plans
-expect 'plan of nothing' 2 '' 'kobdrieft: plan takes one file*usage:*' "$driver" plan
-expect 'plan of two' 2 '' 'kobdrieft: plan takes one file*' "$driver" plan 'cluster A' 'plan A'
-expect 'check of one' 2 '' 'kobdrieft: check takes two files*' "$driver" check 'cluster A'
-expect 'test of a file' 2 '' 'kobdrieft: test takes no argument*' "$driver" test 'cluster A'
-expect 'bench of a file' 2 '' 'kobdrieft: bench takes no argument*' "$driver" bench 'cluster A'
-expect 'plan: no such file' 2 '' 'kobdrieft: no such file: plant.cluster' "$driver" plan plant.cluster
-expect 'check: no such file' 2 '' 'kobdrieft: no such file: plant.plan' "$driver" check 'cluster A' plant.plan
-expect 'plan: a folder' 2 '' 'kobdrieft: a directory, not a file: folder' "$driver" plan folder
-expect 'check: a folder' 2 '' 'kobdrieft: a directory, not a file: folder' "$driver" check folder 'plan A'
+expect 'no command' 3 '' 'usage: kobdrieft plan CLUSTER *' "$driver"
+expect 'another command' 3 '' 'kobdrieft: no such command: plans*usage:*' "$driver" plans
+expect 'plan of nothing' 3 '' 'kobdrieft: plan takes a cluster record*usage:*' "$driver" plan
+expect 'plan of three' 3 '' 'kobdrieft: plan takes a cluster record*' "$driver" plan 'cluster A' 'plan A' more
+expect 'check of one' 3 '' 'kobdrieft: check takes a cluster record and a plan record*' "$driver" check 'cluster A'
+expect 'draw of two' 3 '' 'kobdrieft: draw takes *' "$driver" draw 'cluster A' 'plan A'
+expect 'lib of a file' 3 '' 'kobdrieft: lib takes no argument*' "$driver" lib 'cluster A'
+expect 'test of a file' 3 '' 'kobdrieft: test takes no argument*' "$driver" test 'cluster A'
+expect 'bench of a file' 3 '' 'kobdrieft: bench takes no argument*' "$driver" bench 'cluster A'
+expect 'plan: no such file' 3 '' 'kobdrieft: no such file: plant.cluster' "$driver" plan plant.cluster
+expect 'check: no such file' 3 '' 'kobdrieft: no such file: plant.plan' "$driver" check 'cluster A' plant.plan
+expect 'plan: a folder' 3 '' 'kobdrieft: a directory, not a file: folder' "$driver" plan folder
+expect 'check: a folder' 3 '' 'kobdrieft: a directory, not a file: folder' "$driver" check folder 'plan A'
 # shellcheck disable=SC2016
 expect 'nowhere to print' 3 '' '*kobdrieft: cannot write to standard output' bash -c '"$0" plan "cluster A" >/dev/full' "$driver"
 expect 'the program: no arguments' 0 '' 'verdict: it takes a cluster file and a plan file' "$root/target/bin/verdict"
@@ -107,17 +143,18 @@ expect 'nothing written' 0 "$before" '' files .
 
 # ---- a small repository, with a kit that is a script
 small=$room/'small one'
-mkdir -p "$small/crates/plan" "$small/model/harness" "$room/tools" "$room/kit"
+mkdir -p "$small/crates/plan" "$small/model/harness" "$small/agent" "$room/tools" "$room/kit"
 cp "$driver" "$small/kobdrieft"
 : >"$small/crates.txt"
 : >"$small/crates/plan/source"
-for tool in bash cat chmod date dirname env find flock head mkdir readlink rm tail touch; do
+for tool in awk bash cat chmod date dirname env find flock head mkdir readlink rm sleep tail touch; do
   ln -s "$(command -v "$tool")" "$room/tools/$tool"
 done
 cat >"$room/kit/rt" <<'EOF'
 #!/usr/bin/env bash
 echo "rt $*"
 echo "rt $*" >>"$CALLS"
+[ ! -e "$CALLS.slow" ] || sleep 1
 [ ! -e "$CALLS.break" ] || { echo 'rules NOT PROVED'; exit 1; }
 mkdir -p target/bin target/stamp target/staticlib
 if [ "$1" = check ]; then
@@ -135,7 +172,8 @@ cat >"$room/kit/cargo" <<'EOF'
 echo "cargo $1 in ${PWD##*/}"
 EOF
 cp "$room/kit/cargo" "$room/kit/cc"
-chmod +x "$room"/kit/*
+printf '#!/usr/bin/env bash\nmkdir -p "$2"\n' >"$small/agent/lib.sh"
+chmod +x "$room"/kit/* "$small/agent/lib.sh"
 before=$(files "$small")
 echo 'plan steps 0' >said
 export CALLS=$room/calls
@@ -144,13 +182,13 @@ kit() { PATH=$room/kit:$room/tools "$small/kobdrieft" "$@"; }
 both_at_once() { kit plan said & kit plan said; wait; }
 calls() { cat "$CALLS" 2>/dev/null; rm -f "$CALLS"; }
 
-expect 'no kit' 3 '' "kobdrieft: 'rt' is not on the PATH: the Rattle kit is needed to build the planner and the checker" bare plan said
-expect 'no kit to test' 3 '' "kobdrieft: 'rt' is not on the PATH: *" bare test
-expect 'no cargo' 3 '' "kobdrieft: 'cargo' is not on the PATH: *" bare bench
-expect 'a file is looked at before a build' 2 '' 'kobdrieft: no such file: nothing' kit plan nothing
+expect 'no kit' 4 '' "kobdrieft: 'rt' is not on the PATH: the Rattle kit is needed to build the planner and the checker" bare plan said
+expect 'no kit to test' 4 '' "kobdrieft: 'rt' is not on the PATH: *" bare test
+expect 'no cargo' 4 '' "kobdrieft: 'cargo' is not on the PATH: *" bare bench
+expect 'a file is looked at before a build' 3 '' 'kobdrieft: no such file: nothing' kit plan nothing
 expect 'nothing was built' 0 '' '' calls
 : >"$CALLS.break"
-expect 'a failed build' 3 '' '*about 3 minutes, once*rules NOT PROVED*kobdrieft: failed: rt check plan verdict; the whole log is *' kit plan said
+expect 'a failed build' 4 '' '*about 3 minutes, once*rules NOT PROVED*kobdrieft: failed: rt check plan verdict; the whole log is *' kit plan said
 rm -f "$CALLS.break" "$CALLS"
 expect 'first use' 0 'plan steps 0' "kobdrieft: proving and building the planner and the checker, about 3 minutes, once (log: $small/target/kobdrieft.log)" kit plan said
 expect 'one build' 0 'rt check plan verdict' '' calls
@@ -166,13 +204,15 @@ rm "$small/target/bin/verdict"
 expect 'a program missing' 0 'plan steps 0' '*proving and building*' kit check said said
 expect 'three builds' 0 "$(printf 'rt check plan verdict\n%.0s' 1 2 3)" '' calls
 rm -r "$small/target"
-expect 'two first uses at once' 0 $'plan steps 0\nplan steps 0' '*' both_at_once
+: >"$CALLS.slow"
+expect 'two first uses at once' 0 $'plan steps 0\nplan steps 0' '*another build is under way; waiting for it*' both_at_once
 expect 'one of them builds' 0 'rt check plan verdict' '' calls
-expect 'a program that breaks off' 3 '' 'kobdrieft: * ended with status 4' env ENDS=4 PATH="$room/tools" "$small/kobdrieft" check said said
-expect 'a program with no answer' 2 '' '' bare check empty said
-expect 'bench' 0 'cargo run in harness' '*proving and building the static libraries*kobdrieft: building the benchmark*' kit bench
-expect 'bench again' 0 'cargo run in harness' 'kobdrieft: building the benchmark*' kit bench
-expect 'two libraries' 0 $'rt staticlib rules\nrt staticlib planner' '' calls
+rm "$CALLS.slow"
+expect 'a program that breaks off' 4 '' 'kobdrieft: * ended with status 4' env ENDS=4 PATH="$room/tools" "$small/kobdrieft" check said said
+expect 'a program with no answer' 3 '' '' bare check empty said
+expect 'lib' 0 '' '*proving and building the library*kobdrieft: */target/lib has libkobdrieft.a and kobdrieft.h' kit lib
+expect 'bench' 0 'cargo run in harness' 'kobdrieft: building the benchmark*' kit bench
+expect 'two archives' 0 $'rt staticlib rules\nrt staticlib planner' '' calls
 expect 'only target/ written' 0 "$before" '' files "$small"
 
 # root reads every file, so as nobody
@@ -187,7 +227,7 @@ chmod 711 "$room"
 chmod -R go+rX "$small" "$room/a place"
 chmod 600 said
 [ "$(id -u)" = 0 ] || chmod 000 said
-expect 'a file that may not be read' 2 '' 'kobdrieft: cannot read said: permission denied' unreadable
+expect 'a file that may not be read' 3 '' 'kobdrieft: cannot read said: permission denied' unreadable
 
 echo "driver: $passed passed, $failed failed"
 [ "$failed" -eq 0 ]

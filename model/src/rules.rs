@@ -105,11 +105,16 @@ impl Book {
 
 /// Whether no ban on this VM names the node and every fence around it does.
 pub fn may_go(room: &Room, vm: usize, node: usize) -> bool {
-    room.constraints.iter().all(|constraint| match constraint {
+    room.constraints.iter().all(|constraint| allows(constraint, vm, node))
+}
+
+/// Whether a constraint lets this VM go to the node; only a ban or a fence ever does not.
+pub fn allows(constraint: &Constraint, vm: usize, node: usize) -> bool {
+    match constraint {
         Constraint::Ban { vms, nodes } => !(vms.contains(&vm) && nodes.contains(&node)),
         Constraint::Fence { vms, nodes } => !vms.contains(&vm) || nodes.contains(&node),
         _ => true,
-    })
+    }
 }
 
 /// The other VMs that stand with this one in some spread. Spreads do not merge.

@@ -1,12 +1,16 @@
-//! The drawn page: well formed, whole in itself, a frame for the start, each step and the end, and
-//! in each frame every VM, a running one on both its nodes.
+//! The drawn page: well formed, whole in itself, a frame for the start, each step and the end; in
+//! each frame the VMs that it must show, named where nothing else is written; what refuses a step
+//! is marked, and whose verdict it is is said.
 
-use kobdrieft_model::draw::page;
-use kobdrieft_model::edges::{cluster_a, steps};
-use kobdrieft_model::gen::{knot, plan, room, Rng, Size};
+use kobdrieft_model::draw::{page, Whose};
+use kobdrieft_model::edges::{cluster_a, node, steps, vm};
+use kobdrieft_model::gen::{apart, knot, plan, room, swaps, Rng, Size};
+use kobdrieft_model::orders::{Phase, Run};
 use kobdrieft_model::planner::make_steps;
-use kobdrieft_model::rules::{misnamed, Placement};
+use kobdrieft_model::reasons::reason;
+use kobdrieft_model::rules::Placement;
 use kobdrieft_model::*;
+use std::collections::BTreeSet;
 
 /// The parts of a page between these two marks.
 fn parts<'a>(page: &'a str, from: &'a str, to: &'a str) -> impl Iterator<Item = &'a str> {
@@ -30,65 +34,365 @@ fn well_formed(page: &str) {
     }
 }
 
-/// How often each VM stands in a drawing.
-fn vms_in(drawing: &str, vms: usize) -> Vec<usize> {
+// ---------------------------------------------------------------- shapes and words of a frame
+
+/// A shape or a text: its class, where it is, and its words.
+#[derive(Clone, Debug)]
+struct Thing {
+    class: String,
+    left: f64,
+    right: f64,
+    top: f64,
+    bottom: f64,
+    words: String,
+}
+
+impl Thing {
+    fn overlaps(&self, other: &Thing) -> bool {
+        let apart = self.right <= other.left || other.right <= self.left;
+        !(apart || self.bottom <= other.top || other.bottom <= self.top)
+    }
+
+    /// Whether this lies in the other, up to rounding.
+    fn within(&self, other: &Thing) -> bool {
+        self.left > other.left - 0.2
+            && self.right < other.right + 0.2
+            && self.top > other.top - 0.2
+            && self.bottom < other.bottom + 0.2
+    }
+}
+
+fn attribute(tag: &str, name: &str) -> Option<f64> {
+    let start = format!(" {name}=\"");
+    let value = parts(tag, &start, "\"").next()?;
+    Some(value.parse().unwrap())
+}
+
+fn rects(frame: &str) -> Vec<Thing> {
+    let rect = |tag: &str| {
+        let at = |name| attribute(tag, name).unwrap();
+        Thing {
+            class: parts(tag, "class=\"", "\"").next().unwrap().into(),
+            left: at("x"),
+            right: at("x") + at("width"),
+            top: at("y"),
+            bottom: at("y") + at("height"),
+            words: String::new(),
+        }
+    };
+    parts(frame, "<rect", ">").map(rect).collect()
+}
+
+/// The texts of a frame, as large as they come out in a wide font.
+fn texts(frame: &str) -> Vec<Thing> {
+    let text = |element: &str| {
+        let (tag, words) = element.split_once('>').unwrap();
+        let at = |name| attribute(tag, name);
+        let (x, y, font) = (at("x").unwrap(), at("y").unwrap(), at("font-size").unwrap());
+        let glyph = |char| match char {
+            ' ' | ',' | '\u{b7}' | 'i' | 'l' => 0.32,
+            'M' | '\u{2190}' | '\u{2192}' => 0.87,
+            _ => 0.6,
+        };
+        let wide = at("textLength").unwrap_or(font * words.chars().map(glyph).sum::<f64>());
+        Thing {
+            class: parts(tag, "class=\"", "\"").next().unwrap().into(),
+            left: x - wide / 2.0,
+            right: x + wide / 2.0,
+            top: y - 0.75 * font,
+            bottom: y + 0.22 * font,
+            words: words.into(),
+        }
+    };
+    parts(frame, "<text", "</text>").map(text).collect()
+}
+
+/// No text lies over another, all lie in the picture, and the words of a VM lie in its block.
+fn tidy(picture: &str) {
+    let (texts, rects) = (texts(picture), rects(picture));
+    let tag = picture.split('>').next().unwrap();
+    let (right, bottom) = (attribute(tag, "width").unwrap(), attribute(tag, "height").unwrap());
+    let (class, words) = (String::new(), String::new());
+    let whole = Thing { class, left: 0.0, right, top: 0.0, bottom, words };
+    for (i, text) in texts.iter().enumerate() {
+        assert!(text.within(&whole), "{text:?}");
+        let other = texts[..i].iter().find(|other| text.overlaps(other));
+        assert!(other.is_none(), "{text:?} lies over {other:?}");
+        if text.class.starts_with("vm ") {
+            let holds = |rect: &Thing| rect.class == text.class && text.within(rect);
+            assert!(rects.iter().any(holds), "{text:?} is out of its block");
+        }
+    }
+}
+
+/// The VMs that texts of this class name, and the line behind each.
+fn named(frame: &str, class: &str) -> Vec<(usize, String)> {
+    let texts = texts(frame);
+    let mut found = Vec::new();
+    for (i, text) in texts.iter().enumerate().filter(|(_, text)| text.class == class) {
+        if text.words.ends_with("MiB") && !text.words.starts_with("VM ") {
+            continue;
+        }
+        let words = text.words.strip_prefix("VM ").unwrap_or(&text.words);
+        let digits = words.split(|char: char| !char.is_ascii_digit()).next().unwrap();
+        if let (Ok(vm), rest) = (digits.parse(), &words[digits.len()..]) {
+            let next = texts.get(i + 1).filter(|_| !rest.contains([',', '\u{2190}', '\u{2192}']));
+            found.push((vm, format!("{rest} {}", next.map_or("", |next| &next.words))));
+        }
+    }
+    found
+}
+
+fn vms_named(frame: &str, class: &str) -> BTreeSet<usize> {
+    named(frame, class).into_iter().map(|(vm, _)| vm).collect()
+}
+
+/// How often each VM has a block that names it alone.
+fn vms_in(frame: &str, vms: usize) -> Vec<usize> {
     let mut counts = vec![0; vms];
-    for vm in parts(drawing, "<title>VM ", ":") {
+    for vm in parts(frame, "<title>VM ", ":") {
         counts[vm.parse::<usize>().unwrap()] += 1;
     }
     counts
 }
 
-/// Draws a plan that fits its cluster and looks at every frame.
-fn drawn(room: &Room, steps: &[Step]) -> String {
-    let page = page(room, steps).expect("a plan that fits");
-    well_formed(&page);
-    let frames: Vec<&str> = parts(&page, "<svg class=\"frame\"", "</svg>").collect();
-    assert_eq!(frames.len(), steps.len() + 2);
-    let (start, end) = (Step::new(), Step::new());
-    let moves = [&start].into_iter().chain(steps).chain([&end]);
-    for (frame, step) in frames.iter().zip(moves) {
-        let twice = |vm: usize| 1 + usize::from(step.iter().any(|m| m.vm == vm));
+// ---------------------------------------------------------------- whole pages
+
+fn frames(page: &str) -> Vec<&str> {
+    parts(page, "<figure", "</figure>").collect()
+}
+
+/// A frame between steps shows every node, and names every VM, with its target unless it is there.
+fn still(room: &Room, here: &Placement, frame: &str) {
+    assert_eq!(frame.matches("class=\"name\"").count(), room.nodes.len());
+    assert_eq!(vms_in(frame, room.vms.len()), vec![1; room.vms.len()]);
+    let astray = here.out_of_place(room);
+    let home: BTreeSet<usize> = (0..room.vms.len()).filter(|vm| !astray.contains(vm)).collect();
+    assert_eq!(vms_named(frame, "vm home"), home);
+    let named = named(frame, "vm astray");
+    assert_eq!(
+        named.iter().map(|(vm, _)| *vm).collect::<BTreeSet<_>>(),
+        astray.into_iter().collect()
+    );
+    for (vm, words) in named {
+        let target = format!("target {}", room.vms[vm].target);
+        assert!(words.trim_end().ends_with(&target), "{vm}: {words}");
+    }
+}
+
+/// A step's frame names every VM that moves, on both its nodes, and calls pivots so.
+fn moving(room: &Room, step: &Step, brief: bool, frame: &str) {
+    let moves: BTreeSet<usize> = step.iter().map(|m| m.vm).collect();
+    for class in ["vm leaves", "vm arrives"] {
+        assert_eq!(vms_named(frame, class), moves);
+        for (vm, words) in named(frame, class) {
+            let m = step.iter().find(|m| m.vm == vm).unwrap();
+            assert_eq!(words.contains("pivot"), room.vms[vm].target != m.to, "{vm}: {words}");
+        }
+    }
+    if !brief {
+        let twice = |vm: usize| 1 + usize::from(moves.contains(&vm));
         let expected: Vec<usize> = (0..room.vms.len()).map(twice).collect();
         assert_eq!(vms_in(frame, room.vms.len()), expected);
         assert_eq!(frame.matches("class=\"name\"").count(), room.nodes.len());
     }
+}
+
+/// Draws a plan that can be drawn and looks at every frame.
+fn drawn(room: &Room, steps: &[Step]) -> String {
+    let page = page(room, steps, Whose::Model).expect("a plan that fits");
+    well_formed(&page);
+    let at = refused_at(room, steps);
+    let shown = at.unwrap_or(steps.len());
+    let brief = page.contains("shows the nodes that the step touches");
+    let frames = frames(&page);
+    assert_eq!(frames.len(), 1 + shown + usize::from(at.is_none()));
+    let mut here = Placement::current(room);
+    still(room, &here, frames[0]);
+    for (step, frame) in steps[..shown].iter().zip(&frames[1..]) {
+        moving(room, step, brief, frame);
+        here = here.after(room, step);
+    }
+    if at.is_none() {
+        still(room, &here, frames[frames.len() - 1]);
+    }
+    parts(&page, "<svg class=\"frame\"", "</svg>").for_each(tidy);
     page
+}
+
+/// The step at which a plan is refused, if it is at one.
+fn refused_at(room: &Room, steps: &[Step]) -> Option<usize> {
+    match check(&cluster_bytes(room), &plan_bytes(steps)) {
+        Verdict::Refused { step, .. } if step > 0 => Some(usize::from(step)),
+        _ => None,
+    }
+}
+
+fn has(page: &str, all: &[&str]) {
+    for words in all {
+        assert!(page.contains(words), "{words}");
+    }
+}
+
+/// Nodes of equal size, and VMs that are mostly too low for words in their blocks, some of which
+/// are to go elsewhere.
+fn crowd(nodes: usize, vms: usize, seed: u64) -> Room {
+    let mut rng = Rng::new(seed);
+    let mut some_vm = || {
+        let current = rng.below(nodes);
+        let target = if rng.chance(50) { current } else { rng.below(nodes) };
+        let (memory, cpu) = (rng.pick(&[1_024, 2_048, 4_096, 16_384]), rng.pick(&[50, 100, 800]));
+        vm(memory, cpu, current, target)
+    };
+    let vms = (0..vms).map(|_| some_vm()).collect();
+    Room { nodes: vec![node(262_144, 40_000); nodes], vms, constraints: vec![] }
 }
 
 #[test]
 fn a_drawn() {
     let a = cluster_a();
     let page = drawn(&a, &make_steps(&a).0);
-    for words in [
-        "<h1>3 steps, 3 moves, cost 16</h1>",
-        "<p>3 nodes, 2 VMs. The end is the target. The checker accepts this plan.</p>",
-        "<h2>Start</h2>\n<p>2 VMs off target.</p>",
-        "<h2>Step 1 of 3</h2>\n<p>VM 0 from node 0 to 2.</p>\n\
-         <p>Cost of these moves 3, of the plan so far 3.</p>",
-        "<p>Cost of these moves 5, of the plan so far 8.</p>",
-        "<p>Cost of these moves 8, of the plan so far 16.</p>",
-        "<h2>End</h2>\n<p>Every VM is on its target.</p>",
-    ] {
-        assert!(page.contains(words), "{words}");
-    }
+    has(
+        &page,
+        &[
+            "<h1>3 steps, 3 moves, cost 16</h1>",
+            "<p>3 nodes, 2 VMs. The end is the target.</p>",
+            "Verdict of the Rust model, not of the proved checker: <b>accepted cost 16</b>.",
+            "A pivot is a move to a node that is not its VM's target.",
+            "<h2>Start</h2>\n<p>2 VMs off target.</p>",
+            "<h2>Step 1 of 3</h2>\n<p>VM 0 from node 0 to 2 (pivot).</p>\n\
+             <p>Cost of these moves 3, of the plan so far 3.</p>",
+            ">pivot to 2</text>",
+            ">pivot from 0</text>",
+            "<p>VM 1 from node 1 to 0.</p>\n<p>Cost of these moves 5, of the plan so far 8.</p>",
+            "<p>Cost of these moves 8, of the plan so far 16.</p>",
+            "<h2>End</h2>\n<p>Every VM is on its target.</p>",
+        ],
+    );
     assert_eq!(page.matches("class=\"arrow\"").count(), 3);
-    assert!(!page.contains("OVERFULL"));
+    assert!(!page.contains("OVERFULL") && !page.contains("Broken red lines"));
 }
 
 #[test]
-fn plans_that_are_refused_are_drawn() {
+fn rooms_of_all_sizes() {
+    for (nodes, vms) in [(3, 9), (8, 100), (9, 80), (10, 40), (10, 256), (16, 90), (40, 200)] {
+        let room = crowd(nodes, vms, nodes as u64);
+        let page = drawn(&room, &make_steps(&room).0);
+        let wide = parts(&page, "<svg class=\"frame\" width=\"", "\"").next().unwrap();
+        assert_eq!(wide == "1360", nodes > 8, "{nodes} nodes, {wide} wide");
+    }
+    let full = parse_cluster(include_bytes!("../../examples/full-room.cluster")).unwrap();
+    let page = drawn(&full, &make_steps(&full).0);
+    has(&page, &["VM 0 from node 0 to 63 (pivot).", "A step's frame shows the nodes that"]);
+    assert_eq!(frames(&page)[1].matches("class=\"name\"").count(), 2);
+}
+
+#[test]
+fn large_pages_stay_light() {
+    let room = crowd(64, 256, 7);
+    let to = |i: usize, vm: usize| (room.vms[vm].current + 1 + (i / 128) % 2) % 64;
+    let step = |i| [i % 128, 128 + i % 128].map(|vm| Move { vm, to: to(i, vm) }).to_vec();
+    let steps: Vec<Step> = (0..512).map(step).collect();
+    assert!(matches!(
+        check(&cluster_bytes(&room), &plan_bytes(&steps)),
+        Verdict::Refused { number: 19, .. }
+    ));
+    let (page, pairs) = (drawn(&room, &steps), swaps(128));
+    let most = drawn(&pairs, &make_steps(&pairs).0);
+    println!("{} and {} bytes", page.len(), most.len());
+    assert!(page.len() < 5_000_000 && most.len() < 5_000_000);
+}
+
+// ---------------------------------------------------------------- refused plans
+
+#[test]
+fn no_room() {
     let a = cluster_a();
-    let both = drawn(&a, &steps(&[&[(0, 1), (1, 0)]]));
+    let both = drawn(&a, &steps(&[&[(0, 1), (1, 0)], &[(9, 9)]]));
+    has(
+        &both,
+        &[
+            "<h1>2 steps, 3 moves, refused</h1>",
+            &format!("<b>refused 17 step 1</b>. {}</p>", reason(17)),
+            "<figure class=\"refused\">\n<figcaption><h2>Step 1 of 2, refused</h2>",
+            "<p>An order that fails: begin VM 0: node 1 would have memory 5 of 4 \
+             (VM 1 counts there until its move ends).</p>",
+            "<p>The step behind it is not drawn.</p>",
+            "Broken red lines are around what refuses a step.",
+            ">no space</text>",
+        ],
+    );
     assert_eq!(both.matches("OVERFULL").count(), 2);
     assert_eq!(both.matches("class=\"over\"").count(), 3, "two nodes, and one in the legend");
-    assert!(both.contains("The checker refuses this plan at step 1, with number 17: in some order"));
-    assert!(both.contains("<figure class=\"refused\">"));
+    assert_eq!(both.matches("class=\"blamed\"").count(), 2);
+}
+
+#[test]
+fn forbidden() {
+    let constraints = vec![Constraint::Ban { vms: vec![0], nodes: vec![2] }];
+    let a = Room { constraints, ..cluster_a() };
+    let page = drawn(&a, &steps(&[&[(0, 2)], &[(1, 0)], &[(0, 1)]]));
+    has(
+        &page,
+        &[
+            "<p>VM 0 may not go to node 2: ban vms 0 nodes 2.</p>",
+            "<p>The 2 steps behind it are not drawn.</p>",
+            ">forbidden</text>",
+        ],
+    );
+    assert_eq!(page.matches("class=\"blamed\"").count(), 1);
+    assert_eq!(page.matches("class=\"blamed-vm\"").count(), 1);
+}
+
+#[test]
+fn mates_meet() {
+    let spread = |vms| vec![Constraint::Spread { vms }];
+    let nodes = vec![node(9, 100); 3];
+    let a = Room { nodes: nodes.clone(), constraints: spread(vec![0, 1]), ..cluster_a() };
+    let page = drawn(&a, &steps(&[&[(0, 1)]]));
+    has(&page, &["begin VM 0: node 1 would have VMs 0 and 1, spread mates.", ">mates meet</text>"]);
+    assert_eq!(page.matches("class=\"blamed\"").count(), 1);
+    assert_eq!(page.matches("class=\"blamed-vm\"").count(), 2);
+    let both = drawn(&a, &steps(&[&[(0, 2), (1, 2)]]));
+    has(&both, &["begin VM 0, begin VM 1: node 2 would have VMs 1 and 0, spread mates."]);
+    assert_eq!(both.matches("class=\"blamed-vm\"").count(), 2);
+}
+
+#[test]
+fn off_target() {
+    let a = cluster_a();
     let nothing = drawn(&a, &[]);
-    assert!(nothing.contains("<h1>0 steps, 0 moves, cost 0</h1>"));
-    assert!(nothing.contains("The end is not the target: 2 VMs are elsewhere."));
+    has(
+        &nothing,
+        &[
+            "<h1>0 steps, 0 moves, refused</h1>",
+            "The end is not the target: 2 VMs are elsewhere.",
+            "<b>refused 19 step 0</b>",
+            "<h2>End, refused</h2>\n<p>2 VMs off target.</p>\n<p>Refused with number 19.</p>",
+        ],
+    );
     let half = drawn(&a, &steps(&[&[(0, 2)], &[(1, 0)]]));
-    assert!(half.contains("The end is not the target: 1 VM is elsewhere."));
+    has(&half, &["The end is not the target: 1 VM is elsewhere."]);
+}
+
+#[test]
+fn a_target_that_is_refused() {
+    let mut a = cluster_a();
+    a.vms[0].target = 0;
+    let page = drawn(&a, &steps(&[&[(1, 0)]]));
+    let why = format!("<b>refused 8 step 0</b>. {} The steps are drawn", reason(8));
+    has(&page, &[&why]);
+    assert!(!page.contains("<figure class=\"refused\">"));
+}
+
+#[test]
+fn whose_verdict() {
+    let a = cluster_a();
+    let page = page(&a, &make_steps(&a).0, Whose::Checker).unwrap();
+    has(
+        &page,
+        &["<p class=\"verdict\">Verdict of the proved checker: <b>accepted cost 16</b>.</p>"],
+    );
 }
 
 #[test]
@@ -102,43 +406,56 @@ fn plans_for_another_cluster() {
     ];
     for (step, why) in table {
         let start = "this plan is not one for this cluster: in step 2, ";
-        let outcome = page(&cluster_a(), &steps(&[&[(0, 2)], step]));
+        let outcome = page(&cluster_a(), &steps(&[&[(0, 2)], step]), Whose::Model);
         assert_eq!(outcome, Err(format!("{start}{why}")));
     }
 }
 
-/// Whether no step has fault 15.
-fn fits(room: &Room, steps: &[Step]) -> bool {
-    let mut here = Placement::current(room);
-    for step in steps {
-        if misnamed(room, &here, step) {
-            return false;
+/// Follows every order that a page tells of a refused step; gives how many there are.
+fn told_orders(room: &Room, steps: &[Step], page: &str) -> usize {
+    let Some(at) = refused_at(room, steps) else { return 0 };
+    let before = |here: Placement, step: &Step| here.after(room, step);
+    let start = steps[..at - 1].iter().fold(Placement::current(room), before);
+    let step = &steps[at - 1];
+    let run = Run { room, start: &start.place, step };
+    let mut told = 0;
+    for order in parts(page, "An order that fails: begin VM ", ": node ") {
+        let vms = order.split(", begin VM ").map(|vm| vm.parse().unwrap());
+        let moves: Vec<usize> =
+            vms.map(|vm: usize| step.iter().position(|m| m.vm == vm).unwrap()).collect();
+        let mut phases = vec![Phase::Waiting; step.len()];
+        let (last, first) = moves.split_last().unwrap();
+        for &i in first {
+            phases[i] = Phase::Running;
         }
-        here = here.after(room, step);
+        let found = run.test_begin(&phases, *last);
+        assert!(if page.contains(">no space<") { found.misfit } else { found.mate }, "{order}");
+        told += 1;
     }
-    true
+    told
 }
 
 #[test]
 fn generated_plans() {
     let mut rng = Rng::new(41);
-    let (mut pages, mut refusals) = (0, 0);
+    let (mut pages, mut refusals, mut orders) = (0, 0, 0);
     let sizes = [(Size::Tiny, 400), (Size::Small, 400), (Size::Medium, 40), (Size::Large, 4)];
     for (size, how_many) in sizes {
         for _ in 0..how_many {
-            for make in [room, knot] {
+            for make in [room, knot, apart] {
                 let room = make(&mut rng, size);
                 let steps: Vec<Step> = plan(&mut rng, &room).into_iter().take(40).collect();
-                if fits(&room, &steps) {
-                    drawn(&room, &steps);
-                    pages += 1;
-                } else {
-                    assert!(page(&room, &steps).is_err());
+                let verdict = check(&cluster_bytes(&room), &plan_bytes(&steps));
+                if matches!(verdict, Verdict::Refused { number: 15, .. }) {
+                    assert!(page(&room, &steps, Whose::Model).is_err());
                     refusals += 1;
+                } else {
+                    orders += told_orders(&room, &steps, &drawn(&room, &steps));
+                    pages += 1;
                 }
             }
         }
     }
-    println!("{pages} pages, {refusals} refused");
-    assert!(pages > 500 && refusals > 50);
+    println!("{pages} pages, {refusals} refused, {orders} orders that fail");
+    assert!(pages > 500 && refusals > 50 && orders > 50);
 }

@@ -1,6 +1,7 @@
 //! The examples: their records are what their texts give, the planner and the checker say what
 //! stands beside them, and the page names each.
 
+use kobdrieft_model::draw::{page, Whose};
 use kobdrieft_model::form::{read_cluster, read_plan};
 use kobdrieft_model::text::{plan_text, verdict_text};
 use kobdrieft_model::*;
@@ -78,7 +79,7 @@ fn every_plan_that_fits_is_drawn() {
         let room = parse_cluster(&bytes(&format!("{name}.cluster"))).unwrap();
         let steps = parse_plan(&bytes(&format!("{name}.plan"))).unwrap();
         let other = text(&format!("{name}.verdict")).starts_with("refused 15 ");
-        assert_eq!(draw::page(&room, &steps).is_err(), other, "{name}");
+        assert_eq!(page(&room, &steps, Whose::Model).is_err(), other, "{name}");
     }
 }
 

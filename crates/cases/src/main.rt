@@ -1,33 +1,66 @@
-// Records at the edge of each refusal, with the number that the library gives each (0 is none), verdicts on whole plans, and the
-// planner's answers.
-mod answers;
-mod build;
-mod clusters;
-mod plans;
+// The document's cases that are not proved on paper: a VM sent to where it is, the most nodes and one more, the least buffer and one byte
+// less. Each has a line with what the library says, and of a buffer a line with how many of its bytes stay.
 mod show;
-mod verdicts;
+
+// Cluster A.
+const A: [u8; 40] = [
+    1,
+    0,
+    0,
+    0,
+    40,
+    0,
+    3,
+    0,
+    2,
+    0,
+    0,
+    0,
+    0,
+    4,
+    0,
+    100,
+    0,
+    0,
+    4,
+    0,
+    100,
+    0,
+    0,
+    4,
+    0,
+    100,
+    0,
+    0,
+    3,
+    0,
+    50,
+    0,
+    1,
+    0,
+    0,
+    2,
+    0,
+    50,
+    1,
+    0,
+];
+
+// A record of so many nodes, 64 or 65, that have nothing, and no VM.
+fn nodes(n: u8) -> [u8; 336] {
+    let mut record = [0u8; 336];
+    record[0] = 1;
+    record[3] = 1;
+    record[4] = if n == 64 { 75 } else { 80 };
+    record[6] = n;
+    record
+}
 
 fn main() {
-    let mut b = [0u8; 65536];
-    clusters::header(&mut b);
-    clusters::counts(&mut b);
-    clusters::fill(&mut b);
-    clusters::rows(&mut b);
-    clusters::constraints(&mut b);
-    clusters::lists(&mut b);
-    clusters::groups(&mut b);
-    plans::header(&mut b);
-    plans::shape(&mut b);
-    plans::totals(&mut b);
-    verdicts::paper();
-    verdicts::paper_2();
-    verdicts::naming();
-    verdicts::naming_2();
-    verdicts::fitting();
-    verdicts::fitting_2();
-    verdicts::mates();
-    verdicts::target();
-    verdicts::target_2();
-    answers::buffers();
-    answers::counts(&mut b);
+    show::verdict(&A, b"\x01\0\0\0\x0b\0\x01\0\x01\0\0", b"A, VM 0 to node 0");
+    show::both(&nodes(64)[0..331], b"N = 64");
+    show::both(&nodes(65), b"N = 65");
+    show::answer(&A, 2051, b"A, a buffer of 2,051 bytes");
+    show::answer(&A, 2050, b"A, a buffer of 2,050 bytes");
+    show::answer(&A, 0, b"A, no buffer");
 }

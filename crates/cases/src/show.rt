@@ -1,8 +1,6 @@
-// One line for each case: the number that its record gets, and what it is.
+// A line for each case: what the library says of it, and what it is.
 use planner::Answer;
 use planner::Made;
-use records::ClusterCheck;
-use records::PlanCheck;
 use rules::Verdict;
 
 fn line(label: &[u8], number: u64) {
@@ -10,44 +8,6 @@ fn line(label: &[u8], number: u64) {
     io::write_all(1, b" ");
     io::write_all(1, label);
     io::write_all(1, b"\n");
-}
-
-fn cluster_number(s: &[u8]) -> u64 {
-    let found = records::cluster_check(s);
-    match found {
-        ClusterCheck::Whole => 0,
-        ClusterCheck::Damaged(f) => records::cluster_number(f),
-    }
-}
-
-fn plan_number(s: &[u8]) -> u64 {
-    let found = records::plan_check(s);
-    match found {
-        PlanCheck::Whole => 0,
-        PlanCheck::Damaged(f) => records::plan_number(f),
-    }
-}
-
-fn cluster_part(s: &[u8], n: usize, label: &[u8]) {
-    if n <= s.len() {
-        line(label, cluster_number(&s[0..n]));
-    }
-}
-
-fn plan_part(s: &[u8], n: usize, label: &[u8]) {
-    if n <= s.len() {
-        line(label, plan_number(&s[0..n]));
-    }
-}
-
-// The first n bytes as a cluster record.
-pub fn cluster(b: &[u8; 65536], n: usize, label: &[u8]) {
-    cluster_part(b, n, label);
-}
-
-// The first n bytes as a plan record.
-pub fn plan(b: &[u8; 65536], n: usize, label: &[u8]) {
-    plan_part(b, n, label);
 }
 
 // The verdict on a plan for a cluster.
@@ -119,14 +79,8 @@ pub fn answer(cluster: &[u8], size: usize, label: &[u8]) {
     line(b"of 2,100 bytes stay", rest(&out) as u64);
 }
 
-fn both_part(s: &[u8], n: usize, label: &[u8]) {
-    if n <= s.len() {
-        verdict(&s[0..n], b"\x01\0\0\0\x07\0\0", label);
-        answer(&s[0..n], 2051, label);
-    }
-}
-
-// The first n bytes as a cluster record: the verdict on a plan of no steps, and the answer.
-pub fn both(b: &[u8; 65536], n: usize, label: &[u8]) {
-    both_part(b, n, label);
+// The verdict on a plan of no steps, and the answer.
+pub fn both(cluster: &[u8], label: &[u8]) {
+    verdict(cluster, b"\x01\0\0\0\x07\0\0", label);
+    answer(cluster, planner::LEAST_BUFFER, label);
 }

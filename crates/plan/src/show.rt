@@ -80,14 +80,12 @@ fn checked(cluster: &[u8], plan: &[u8]) {
     }
 }
 
-// The lines of the record at the buffer's front, as long as it says it is.
-fn front(cluster: &[u8], plan: &[u8]) {
-    if 7 <= plan.len() {
-        let end = records::stated_length(plan);
-        if end <= plan.len() {
-            checked(cluster, &plan[0..end]);
-        }
+// The record at a buffer's front, as long as it says it is.
+pub fn record(buffer: &[u8]) -> &[u8] {
+    if 7 <= buffer.len() {
+        return files::front(buffer, records::stated_length(buffer));
     }
+    buffer
 }
 
 // A plan or blocked: the line of counts, and the lines of its moves.
@@ -97,5 +95,5 @@ pub fn made(word: &[u8], cluster: &[u8], plan: &[u8], made: Made) {
     field(b" moves ", made.moves);
     field(b" cost ", made.cost);
     text(b"\n");
-    front(cluster, plan);
+    checked(cluster, record(plan));
 }

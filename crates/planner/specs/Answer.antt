@@ -33,6 +33,10 @@ madeOf room steps = record { steps = length steps; moves = moveTotal steps; cost
 unfoldable pub outcome : Room → List Step → Answer
 outcome room steps = pick (home room (afterAll (currentOf room) steps)) (Plan (madeOf room steps)) (Blocked (madeOf room steps))
 
+-- the least buffer that is taken
+abbrev pub leastBuffer : ℕ
+leastBuffer = 2051
+
 -- what each check says, and what follows if it finds nothing
 unfoldable pub answerCluster : ClusterCheck → Answer → Answer
 answerCluster ClusterCheck.Whole rest = rest
@@ -47,7 +51,7 @@ unfoldable pub answerOf : List ℕ → ℕ → Answer
 answerOf cluster size =
     answerCluster (clusterCheck cluster)
     (answerTarget (targetCheck (roomOf cluster))
-    (pick (ltb size 2051) (Refused Buffer)
+    (pick (ltb size leastBuffer) (Refused Buffer)
     (outcome (roomOf cluster) (stepsFor (roomOf cluster)))))
 
 -- what is then in the buffer: on a refusal what was there; else the record of the steps at its front, and behind it what was there

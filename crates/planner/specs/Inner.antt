@@ -13,7 +13,7 @@ use Rattle.rules.specs.Orders.{spreads, some, meetsMate}
 use Rattle.rules.specs.Rules.{allowed, soundStep}
 use Rattle.rules.specs.Verdict.{home}
 use Rattle.rules.specs.Promises.{afterAll}
-use Rattle.rules.specs.Inner.{held, busyFrom}
+use Rattle.rules.specs.Inner.{held, noMove, busyFrom}
 use Rattle.rules.specs.declared.tally.Tally.{Tally}
 use Rattle.planner.specs.Picks.{moving, canGo, useful}
 use Rattle.planner.specs.Answer.{stepsFor}
@@ -69,7 +69,7 @@ joinsIn s places dests here v d =
 
 -- where VM v goes: to its target if it may, else nowhere
 unfoldable pub goalOf : List ℕ → List ℕ → List ℕ → Tally → ℕ → ℕ
-goalOf s places dests here v = pick (joinsIn s places dests here v (vmOf (roomOf s) v .target)) (vmOf (roomOf s) v .target) 64
+goalOf s places dests here v = pick (joinsIn s places dests here v (vmOf (roomOf s) v .target)) (vmOf (roomOf s) v .target) noMove
 
 -- ---- pivots
 
@@ -102,9 +102,9 @@ usefulNode room places v (d ∷ ds) = pick (useful room places v d) d (usefulNod
 
 -- ---- a step as an array of destinations
 
--- VM v's move to a destination; 64 is none
+-- VM v's move to a destination
 unfoldable pub moveIn : ℕ → ℕ → Step
-moveIn v d = pick (eqb d 64) [] (moving v d ∷ [])
+moveIn v d = pick (eqb d noMove) [] (moving v d ∷ [])
 
 -- the moves of n VMs from v on
 unfoldable pub movesIn : List ℕ → ℕ → ℕ → Step
@@ -113,7 +113,7 @@ movesIn dests v (suc n) = moveIn v (getD dests v 0) ++ movesIn dests (suc v) n
 
 -- where a VM is behind a step
 unfoldable pub behindStep : ℕ → ℕ → ℕ
-behindStep d p = pick (eqb d 64) p d
+behindStep d p = pick (eqb d noMove) p d
 
 -- ---- the steps written
 

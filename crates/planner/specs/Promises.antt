@@ -20,7 +20,7 @@ use Rattle.rules.specs.declared.faults.TargetCheck.{TargetCheck}
 use Rattle.rules.specs.declared.faults.Fault.{Fault}
 use Rattle.rules.specs.declared.faults.Verdict.{Verdict}
 use Rattle.planner.specs.Picks.{away, awayCount, canGo, useful, Picks}
-use Rattle.planner.specs.Answer.{stepsFor, answerOf, bufferOf, frontOf, buildNumber, packedAnswer}
+use Rattle.planner.specs.Answer.{stepsFor, answerOf, bufferOf, frontOf, leastBuffer, buildNumber, packedAnswer}
 use Rattle.planner.specs.declared.answer.Made.{Made}
 use Rattle.planner.specs.declared.answer.Answer.{Answer}
 use Rattle.planner.specs.declared.answer.Answer.the-variants.{Plan, Blocked, Refused}
@@ -72,7 +72,7 @@ pub record Written (cluster plan : List ℕ) (made : Made) : Type 0 where
   pub none : awayCount (roomOf cluster) (currentOf (roomOf cluster)) ≡ 0 → stepsOf plan ≡ []
   pub short : 0 < awayCount (roomOf cluster) (currentOf (roomOf cluster)) → length (stepsOf plan) + 1 ≤ 2 * awayCount (roomOf cluster) (currentOf (roomOf cluster))
   -- the record fits the least buffer that is taken
-  pub small : length plan ≤ 2051
+  pub small : length plan ≤ leastBuffer
   -- the counts and the cost given are those of the record
   pub steps : made .steps ≡ length (stepsOf plan)
   pub moves : made .moves ≡ moveTotal (stepsOf plan)
@@ -96,7 +96,7 @@ pub record Halted (cluster plan : List ℕ) (made : Made) : Type 0 where
 pub record Taken (cluster buffer : List ℕ) : Type 0 where
   pub cluster-whole : clusterCheck cluster ≡ ClusterCheck.Whole
   pub target-good : targetCheck (roomOf cluster) ≡ TargetCheck.Good
-  pub buffer-long : 2051 ≤ length buffer
+  pub buffer-long : leastBuffer ≤ length buffer
 
 -- a field each, on any cluster record and any buffer, and the number returned
 pub record Built (cluster before after : List ℕ) (r : ℕ) : Type 0 where

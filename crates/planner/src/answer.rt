@@ -1,6 +1,7 @@
 // What the planner answers, and its packing into one number.
 use records::ClusterFault;
 use rules::TargetFault;
+use rules::packing;
 ghost use mathlib.Core.Path.{_≡_};
 ghost use Prim.Native.Nat.{_<_, _^_};
 ghost use Rattle.planner.specs.Answer.{buildNumber, packedMade, packedAnswer};
@@ -41,7 +42,7 @@ fn pack_made(m: Made) -> u64
     requires { ⌜ (m .steps < 2 ^ 9) × (m .moves < 2 ^ 9) × (m .cost < 2 ^ 43) ⌝ }
     ensures { λ r. ⌜ (r ≡ packedMade m) × (r < 2 ^ 62) ⌝ }
 {
-    m.steps * 9007199254740992 + m.moves * 17592186044416 + m.cost
+    m.steps * packing::STEPS + m.moves * packing::MOVES + m.cost
 }
 
 // An answer as one number.
@@ -51,7 +52,7 @@ pub fn pack(a: Answer) -> u64
 {
     match a {
         Answer::Plan(m) => pack_made(m),
-        Answer::Blocked(m) => 4611686018427387904 + pack_made(m),
-        Answer::Refused(f) => 9223372036854775808 + build_number(f) * 65536,
+        Answer::Blocked(m) => packing::BLOCKED + pack_made(m),
+        Answer::Refused(f) => packing::REFUSED + build_number(f) * packing::NUMBER,
     }
 }

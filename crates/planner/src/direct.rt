@@ -1,6 +1,12 @@
-// The direct step, as an array of destinations: 64 where a VM has no move.
+// The direct step, as an array of destinations.
 use crate::join::may_join;
+use crate::mates::PairTable;
+use rules::AllowTable;
+use rules::Destinations;
+use rules::NO_MOVE;
+use rules::Placement;
 use rules::Tally;
+use rules::VMS;
 ghost use mathlib.Core.Path.{_≡_};
 ghost use Prim.Native.Nat.{_<_};
 ghost use Rattle.records.specs.Room.{roomOf, vmCount, clusterCheck};
@@ -12,10 +18,10 @@ ghost use Rattle.planner.specs.Inner.{Pairs, Light, goalOf};
 // Where VM v goes in the step: to its target if it may join the moves before it, `here` being the target's tally with those running.
 fn goal(
     cluster: &[u8],
-    allow: &[u8; 16384],
-    pairs: &[u8; 65536],
-    places: &[u8; 256],
-    dests: &[u8; 256],
+    allow: &AllowTable,
+    pairs: &PairTable,
+    places: &Placement,
+    dests: &Destinations,
     here: Tally,
     v: usize,
 ) -> u8
@@ -26,21 +32,21 @@ fn goal(
     if may_join(cluster, allow, pairs, places, dests, here, v, to as usize) {
         return to;
     }
-    64
+    NO_MOVE
 }
 
 // The VMs in turn, each sent to its target if that keeps the step sound. The sums are those with every move so far running.
 pub fn direct_step(
     cluster: &[u8],
-    allow: &[u8; 16384],
-    pairs: &[u8; 65536],
-    places: &[u8; 256],
-) -> [u8; 256]
+    allow: &AllowTable,
+    pairs: &PairTable,
+    places: &Placement,
+) -> Destinations
     requires { ⌜ (clusterCheck (now cluster) ≡ ClusterCheck.Whole) × Allows (now cluster) (now allow) × Pairs (now cluster) (now pairs) × Placed (now cluster) (now places) ⌝ }
     ensures { λ r. ⌜ r ≡ destsFrom (directStep (roomOf (now (cluster .entry))) (held (now (cluster .entry)) (now (places .entry)))) ⌝ }
 {
     let n = records::vm_count(cluster);
-    let mut dests = [64u8; 256];
+    let mut dests = [NO_MOVE; VMS];
     let mut sums = rules::loads(cluster, places, &dests);
     let mut v: usize = 0;
     while v < n {

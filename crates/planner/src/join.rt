@@ -1,5 +1,10 @@
 // Whether a move can be added to the moves of a step: its own test, at its destination only.
+use crate::mates::PairTable;
 use crate::mates::meets;
+use rules::AllowTable;
+use rules::Destinations;
+use rules::NODES;
+use rules::Placement;
 use rules::Tally;
 ghost use mathlib.Core.Path.{_≡_};
 ghost use Prim.Native.Nat.{_<_};
@@ -20,10 +25,10 @@ fn fits_with(cluster: &[u8], here: Tally, v: usize, d: usize) -> bool
 // Whether VM v may go to node d beside the moves of an array of destinations, `here` being the tally of d with those moves running.
 pub fn may_join(
     cluster: &[u8],
-    allow: &[u8; 16384],
-    pairs: &[u8; 65536],
-    places: &[u8; 256],
-    dests: &[u8; 256],
+    allow: &AllowTable,
+    pairs: &PairTable,
+    places: &Placement,
+    dests: &Destinations,
     here: Tally,
     v: usize,
     d: usize,
@@ -34,7 +39,7 @@ pub fn may_join(
     if rules::node_at(places, v) == d {
         return false;
     }
-    if allow[v * 64 + d] == 0 {
+    if allow[v * NODES + d] == 0 {
         return false;
     }
     if !fits_with(cluster, here, v, d) {

@@ -14,6 +14,7 @@ pub use answer::Answer;
 pub use answer::BuildFault;
 pub use answer::Made;
 pub use answer::build_number;
+pub use plan::LEAST_BUFFER;
 pub use plan::answer_to;
 
 // Plans for a cluster, on any two byte strings: writes the steps made, of a plan or of blocked, as a record at the buffer's front; a

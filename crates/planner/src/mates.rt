@@ -1,5 +1,8 @@
 // Which VMs are named by one spread, decided once for a call: a mark for each pair, 256 for each VM. And whether a VM meets a mate.
 use records::Kind;
+use rules::Destinations;
+use rules::Placement;
+use rules::VMS;
 ghost use mathlib.Core.Path.{_≡_};
 ghost use mathlib.Core.Bool.{true, _||_};
 ghost use Prim.Native.Nat.{_<_};
@@ -11,21 +14,26 @@ ghost use Rattle.rules.specs.Inner.{busyFrom};
 ghost use Rattle.rules.specs.Orders.{meetsMate};
 ghost use Rattle.planner.specs.Inner.{pairRow, pairRows, paired, Blank, Pairs};
 
+// A mark for each pair of VMs.
+pub const PAIRS: usize = 65536;
+
+pub type PairTable = [u8; PAIRS];
+
 // Marks VM v with each VM of a list.
-fn pair_row(vms: &[u8], v: usize, table: &mut [u8; 65536])
+fn pair_row(vms: &[u8], v: usize, table: &mut PairTable)
     requires { ⌜ v < 256 ⌝ }
     ensures { λ r. ⌜ now (table .exit) ≡ pairRow (now (table .entry)) v (now (vms .entry)) ⌝ }
 {
     let mut i: usize = 0;
     while i < vms.len() {
         let w = rules::entry(vms, i);
-        table[v * 256 + w] = 1;
+        table[v * VMS + w] = 1;
         i += 1;
     }
 }
 
 // Marks each VM of a list with each.
-fn pair_rows(vms: &[u8], table: &mut [u8; 65536])
+fn pair_rows(vms: &[u8], table: &mut PairTable)
     ensures { λ r. ⌜ now (table .exit) ≡ pairRows (now (table .entry)) (now (vms .entry)) (now (vms .entry)) ⌝ }
 {
     let mut i: usize = 0;
@@ -36,7 +44,7 @@ fn pair_rows(vms: &[u8], table: &mut [u8; 65536])
 }
 
 // Marks the pairs of one constraint: only a spread has any.
-fn pair_part(p: &[u8], table: &mut [u8; 65536])
+fn pair_part(p: &[u8], table: &mut PairTable)
     requires { ⌜ filled (now p) ≡ true ⌝ }
     ensures { λ r. ⌜ now (table .exit) ≡ paired (now (table .entry)) (constraintOf (now (p .entry))) ⌝ }
 {
@@ -50,7 +58,7 @@ fn pair_part(p: &[u8], table: &mut [u8; 65536])
 }
 
 // Marks all pairs, in a table that has no mark.
-pub fn pair_table(cluster: &[u8], table: &mut [u8; 65536])
+pub fn pair_table(cluster: &[u8], table: &mut PairTable)
     requires { ⌜ (clusterCheck (now cluster) ≡ ClusterCheck.Whole) × Blank (now table) ⌝ }
     ensures { λ r. ⌜ Pairs (now (cluster .entry)) (now (table .exit)) ⌝ }
 {
@@ -65,7 +73,7 @@ pub fn pair_table(cluster: &[u8], table: &mut [u8; 65536])
 }
 
 // Whether VM w counts on node d: it is on its way there, or there.
-fn counts(places: &[u8; 256], dests: &[u8; 256], w: usize, d: usize) -> bool
+fn counts(places: &Placement, dests: &Destinations, w: usize, d: usize) -> bool
     requires { ⌜ w < 256 ⌝ }
     ensures { λ r. ⌜ r ≡ (eqb (getD (now (places .entry)) w 0) d || eqb (getD (now (dests .entry)) w 0) d) ⌝ }
 {
@@ -78,9 +86,9 @@ fn counts(places: &[u8; 256], dests: &[u8; 256], w: usize, d: usize) -> bool
 // Whether a mate of VM v counts on node d, with every move of the array of destinations running.
 pub fn meets(
     cluster: &[u8],
-    pairs: &[u8; 65536],
-    places: &[u8; 256],
-    dests: &[u8; 256],
+    pairs: &PairTable,
+    places: &Placement,
+    dests: &Destinations,
     v: usize,
     d: usize,
 ) -> bool
@@ -90,7 +98,7 @@ pub fn meets(
     let n = records::vm_count(cluster);
     let mut w: usize = 0;
     while w < n {
-        if pairs[v * 256 + w] != 0 {
+        if pairs[v * VMS + w] != 0 {
             if w != v {
                 if counts(places, dests, w, d) {
                     return true;

@@ -1,7 +1,14 @@
 // The pivot, as an array of destinations with one move, none if no pivot is useful. It is looked for only where no direct move is sound:
 // there, whether a pivot helps does not depend on its node, so the lowest sound node of a VM is tried and no other.
 use crate::join::may_join;
+use crate::mates::PairTable;
+use rules::AllowTable;
+use rules::Destinations;
+use rules::NO_MOVE;
+use rules::Placement;
+use rules::Sums;
 use rules::Tally;
+use rules::VMS;
 ghost use mathlib.Core.Path.{_≡_};
 ghost use mathlib.Core.List.{[], _∷_};
 ghost use Prim.Native.Nat.{_<_};
@@ -16,9 +23,9 @@ ghost use Rattle.planner.specs.Inner.{Pairs, Rested, aside, pivotNode, c
 // Whether moving VM v alone to node d is a sound step, `here` being the tally of d with all VMs at rest.
 fn goes_alone(
     cluster: &[u8],
-    allow: &[u8; 16384],
-    pairs: &[u8; 65536],
-    places: &[u8; 256],
+    allow: &AllowTable,
+    pairs: &PairTable,
+    places: &Placement,
     here: Tally,
     v: usize,
     d: usize,
@@ -26,16 +33,16 @@ fn goes_alone(
     requires { ⌜ (clusterCheck (now cluster) ≡ ClusterCheck.Whole) × Allows (now cluster) (now allow) × Pairs (now cluster) (now pairs) × (v < vmCount (now cluster)) × (d < nodeCount (now cluster)) × Rested (now cluster) (now places) d here ⌝ }
     ensures { λ r. ⌜ r ≡ soundStep (roomOf (now (cluster .entry))) (held (now (cluster .entry)) (now (places .entry))) (moving v d ∷ []) ⌝ }
 {
-    let rest = [64u8; 256];
+    let rest = [NO_MOVE; VMS];
     may_join(cluster, allow, pairs, places, &rest, here, v, d)
 }
 
 // The same, but not to its target.
 fn goes_aside(
     cluster: &[u8],
-    allow: &[u8; 16384],
-    pairs: &[u8; 65536],
-    places: &[u8; 256],
+    allow: &AllowTable,
+    pairs: &PairTable,
+    places: &Placement,
     here: Tally,
     v: usize,
     d: usize,
@@ -52,10 +59,10 @@ fn goes_aside(
 // The lowest node that VM v may go to alone, its target left out; the number of nodes if there is none.
 fn pivot_node(
     cluster: &[u8],
-    allow: &[u8; 16384],
-    pairs: &[u8; 65536],
-    places: &[u8; 256],
-    sums: [Tally; 65],
+    allow: &AllowTable,
+    pairs: &PairTable,
+    places: &Placement,
+    sums: Sums,
     v: usize,
 ) -> usize
     requires { ⌜ (clusterCheck (now cluster) ≡ ClusterCheck.Whole) × Allows (now cluster) (now allow) × Pairs (now cluster) (now pairs) × Loads (now cluster) (now places) (replicate 256 64) sums × (v < vmCount (now cluster)) ⌝ }
@@ -76,9 +83,9 @@ fn pivot_node(
 // Whether VM u is not v, is wanted on node p, and may go there alone.
 fn comes(
     cluster: &[u8],
-    allow: &[u8; 16384],
-    pairs: &[u8; 65536],
-    places: &[u8; 256],
+    allow: &AllowTable,
+    pairs: &PairTable,
+    places: &Placement,
     here: Tally,
     v: usize,
     p: usize,
@@ -99,9 +106,9 @@ fn comes(
 // Whether some VM other than v may go alone to node p, its target.
 fn some_comes(
     cluster: &[u8],
-    allow: &[u8; 16384],
-    pairs: &[u8; 65536],
-    places: &[u8; 256],
+    allow: &AllowTable,
+    pairs: &PairTable,
+    places: &Placement,
     v: usize,
     p: usize,
 ) -> bool
@@ -109,7 +116,7 @@ fn some_comes(
     ensures { λ r. ⌜ r ≡ comesTo (roomOf (now (cluster .entry))) (held (now (cluster .entry)) (now (places .entry))) v p (vmsIn (roomOf (now (cluster .entry)))) ⌝ }
 {
     let n = records::vm_count(cluster);
-    let rest = [64u8; 256];
+    let rest = [NO_MOVE; VMS];
     let sums = rules::loads(cluster, places, &rest);
     let here = sums[p];
     let mut u: usize = 0;
@@ -125,10 +132,10 @@ fn some_comes(
 // The node of VM v's useful pivot; the number of nodes if it has none.
 fn useful_node(
     cluster: &[u8],
-    allow: &[u8; 16384],
-    pairs: &[u8; 65536],
-    places: [u8; 256],
-    sums: [Tally; 65],
+    allow: &AllowTable,
+    pairs: &PairTable,
+    places: Placement,
+    sums: Sums,
     v: usize,
 ) -> usize
     requires { ⌜ (clusterCheck (now cluster) ≡ ClusterCheck.Whole) × Allows (now cluster) (now allow) × Pairs (now cluster) (now pairs) × Placed (now cluster) places × Loads (now cluster) places (replicate 256 64) sums × (v < vmCount (now cluster)) × (directStep (roomOf (now cluster)) (held (now cluster) places) ≡ []) ⌝ }
@@ -154,16 +161,16 @@ fn useful_node(
 // The first useful pivot, VMs tried by number and for each its nodes by number.
 pub fn pivot_step(
     cluster: &[u8],
-    allow: &[u8; 16384],
-    pairs: &[u8; 65536],
-    places: [u8; 256],
-) -> [u8; 256]
+    allow: &AllowTable,
+    pairs: &PairTable,
+    places: Placement,
+) -> Destinations
     requires { ⌜ (clusterCheck (now cluster) ≡ ClusterCheck.Whole) × Allows (now cluster) (now allow) × Pairs (now cluster) (now pairs) × Placed (now cluster) places × (directStep (roomOf (now cluster)) (held (now cluster) places) ≡ []) ⌝ }
     ensures { λ r. ⌜ r ≡ destsFrom (pivotStep (roomOf (now (cluster .entry))) (held (now (cluster .entry)) places)) ⌝ }
 {
     let n = records::vm_count(cluster);
     let nodes = records::node_count(cluster);
-    let mut dests = [64u8; 256];
+    let mut dests = [NO_MOVE; VMS];
     let sums = rules::loads(cluster, &places, &dests);
     let mut v: usize = 0;
     while v < n {

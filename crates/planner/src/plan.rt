@@ -2,6 +2,7 @@
 use crate::answer::Answer;
 use crate::answer::BuildFault;
 use crate::answer::Made;
+use crate::mates::PAIRS;
 use crate::mates::pair_table;
 use crate::steps::write_steps;
 use records::ClusterCheck;
@@ -14,18 +15,21 @@ ghost use Rattle.records.specs.Base.{pick};
 ghost use Rattle.records.specs.Room.{roomOf, clusterCheck};
 ghost use Rattle.records.specs.declared.faults.ClusterCheck.{ClusterCheck};
 ghost use Rattle.rules.specs.Rules.{targetCheck};
-ghost use Rattle.planner.specs.Answer.{outcome, stepsFor, answerTarget, answerOf};
+ghost use Rattle.planner.specs.Answer.{outcome, stepsFor, answerTarget, answerOf, leastBuffer};
 ghost use Rattle.planner.specs.Promises.{Answers};
 ghost use Rattle.planner.specs.declared.answer.Answer.{Answer};
 ghost use Rattle.planner.specs.declared.answer.BuildFault.{BuildFault};
 
+// The least buffer that is taken: the longest record that can come out.
+pub const LEAST_BUFFER: usize = 2051;
+
 // The steps made, their record and their counts, for a buffer that is long enough.
 fn planned(cluster: &[u8], out: &mut [u8]) -> Answer
-    requires { ⌜ (clusterCheck (now cluster) ≡ ClusterCheck.Whole) × (2051 ≤ length (now out)) ⌝ }
+    requires { ⌜ (clusterCheck (now cluster) ≡ ClusterCheck.Whole) × (leastBuffer ≤ length (now out)) ⌝ }
     ensures { λ r. ⌜ Answers (now (cluster .entry)) (outcome (roomOf (now (cluster .entry))) (stepsFor (roomOf (now (cluster .entry))))) (now (out .entry)) (now (out .exit)) r ⌝ }
 {
     let allow = rules::allow_table(cluster);
-    let mut pairs = [0u8; 65536];
+    let mut pairs = [0u8; PAIRS];
     pair_table(cluster, &mut pairs);
     let trail = write_steps(cluster, &allow, &pairs, out);
     let end = trail.end;
@@ -45,13 +49,13 @@ fn planned(cluster: &[u8], out: &mut [u8]) -> Answer
 // From the target on.
 fn plan_target(cluster: &[u8], out: &mut [u8]) -> Answer
     requires { ⌜ clusterCheck (now cluster) ≡ ClusterCheck.Whole ⌝ }
-    ensures { λ r. ⌜ Answers (now (cluster .entry)) (answerTarget (targetCheck (roomOf (now (cluster .entry)))) (pick (ltb (length (now (out .entry))) 2051) (Answer.Refused BuildFault.Buffer) (outcome (roomOf (now (cluster .entry))) (stepsFor (roomOf (now (cluster .entry))))))) (now (out .entry)) (now (out .exit)) r ⌝ }
+    ensures { λ r. ⌜ Answers (now (cluster .entry)) (answerTarget (targetCheck (roomOf (now (cluster .entry)))) (pick (ltb (length (now (out .entry))) leastBuffer) (Answer.Refused BuildFault.Buffer) (outcome (roomOf (now (cluster .entry))) (stepsFor (roomOf (now (cluster .entry))))))) (now (out .entry)) (now (out .exit)) r ⌝ }
 {
     let found = rules::target_check(cluster);
     match found {
         TargetCheck::Bad(f) => Answer::Refused(BuildFault::Target(f)),
         TargetCheck::Good => {
-            if out.len() < 2051 {
+            if out.len() < LEAST_BUFFER {
                 return Answer::Refused(BuildFault::Buffer);
             }
             planned(cluster, out)

@@ -1,6 +1,11 @@
 // The planner's steps, one after the other, into a lent buffer.
 use crate::direct::direct_step;
+use crate::mates::PairTable;
 use crate::pivot::pivot_step;
+use rules::AllowTable;
+use rules::Destinations;
+use rules::NO_MOVE;
+use rules::Placement;
 ghost use mathlib.Core.Path.{_≡_};
 ghost use mathlib.Core.Bool.{true};
 ghost use Prim.Native.Nat.{_+_, _*_, _≤_, _<_};
@@ -12,16 +17,17 @@ ghost use Rattle.records.specs.declared.faults.ClusterCheck.{ClusterCheck};
 ghost use Rattle.rules.specs.Moments.{after};
 ghost use Rattle.rules.specs.Inner.{held, Allows, Placed, destsFrom};
 ghost use Rattle.planner.specs.Picks.{nextStep};
+ghost use Rattle.planner.specs.Answer.{leastBuffer};
 ghost use Rattle.planner.specs.Inner.{Pairs, moveIn, movesIn, behindStep, Trailed};
 
 // Whether some VM has a destination.
-fn has_moves(dests: &[u8; 256], n: usize) -> bool
+fn has_moves(dests: &Destinations, n: usize) -> bool
     requires { ⌜ n ≤ 256 ⌝ }
     ensures { λ r. ⌜ r ≡ ltb 0 (length (movesIn (now (dests .entry)) 0 n)) ⌝ }
 {
     let mut v: usize = 0;
     while v < n {
-        if dests[v] != 64 {
+        if dests[v] != NO_MOVE {
             return true;
         }
         v += 1;
@@ -32,10 +38,10 @@ fn has_moves(dests: &[u8; 256], n: usize) -> bool
 // The next step from a placement copied for it: the direct step, or if that has no move the pivot.
 fn next_step(
     cluster: &[u8],
-    allow: &[u8; 16384],
-    pairs: &[u8; 65536],
-    places: [u8; 256],
-) -> [u8; 256]
+    allow: &AllowTable,
+    pairs: &PairTable,
+    places: Placement,
+) -> Destinations
     requires { ⌜ (clusterCheck (now cluster) ≡ ClusterCheck.Whole) × Allows (now cluster) (now allow) × Pairs (now cluster) (now pairs) × Placed (now cluster) places ⌝ }
     ensures { λ r. ⌜ r ≡ destsFrom (nextStep (roomOf (now (cluster .entry))) (held (now (cluster .entry)) places)) ⌝ }
 {
@@ -51,7 +57,7 @@ fn put_move(out: &mut [u8], at: usize, n: usize, v: usize, d: u8) -> usize
     requires { ⌜ (at + 2 + n * 2 + length (moveIn v d) * 2 ≤ length (now out)) × (v < 256) ⌝ }
     ensures { λ r. ⌜ (r ≡ n + length (moveIn v d)) × (now (out .exit) ≡ written (now (out .entry)) (at + 2 + n * 2) (movesBytes (moveIn v d))) ⌝ }
 {
-    if d == 64 {
+    if d == NO_MOVE {
         return n;
     }
     records::append_move(out, at, n, v as u8, d);
@@ -59,7 +65,7 @@ fn put_move(out: &mut [u8], at: usize, n: usize, v: usize, d: u8) -> usize
 }
 
 // Puts the moves of a step at a place, and tells how many there are.
-fn put_moves(out: &mut [u8], at: usize, dests: &[u8; 256], vms: usize) -> usize
+fn put_moves(out: &mut [u8], at: usize, dests: &Destinations, vms: usize) -> usize
     requires { ⌜ (at + 2 + length (movesIn (now dests) 0 vms) * 2 ≤ length (now out)) × (vms ≤ 256) ⌝ }
     ensures { λ r. ⌜ (r ≡ length (movesIn (now (dests .entry)) 0 vms)) × (now (out .exit) ≡ written (now (out .entry)) (at + 2) (movesBytes (movesIn (now (dests .entry)) 0 vms))) ⌝ }
 {
@@ -77,11 +83,11 @@ fn put_moves(out: &mut [u8], at: usize, dests: &[u8; 256], vms: usize) -> usize
 fn settle(d: u8, p: u8) -> u8
     ensures { λ r. ⌜ r ≡ behindStep d p ⌝ }
 {
-    if d == 64 { p } else { d }
+    if d == NO_MOVE { p } else { d }
 }
 
 // The placement that a step leaves.
-fn moved(places: [u8; 256], dests: &[u8; 256], vms: usize) -> [u8; 256]
+fn moved(places: Placement, dests: &Destinations, vms: usize) -> Placement
     requires { ⌜ vms ≤ 256 ⌝ }
     ensures { λ r. ⌜ r ≡ after places (movesIn (now (dests .entry)) 0 vms) ⌝ }
 {
@@ -103,13 +109,8 @@ pub struct Trail {
 }
 
 // The steps from the current nodes, behind the place of the header, until there is no next one.
-pub fn write_steps(
-    cluster: &[u8],
-    allow: &[u8; 16384],
-    pairs: &[u8; 65536],
-    out: &mut [u8],
-) -> Trail
-    requires { ⌜ (clusterCheck (now cluster) ≡ ClusterCheck.Whole) × Allows (now cluster) (now allow) × Pairs (now cluster) (now pairs) × (2051 ≤ length (now out)) ⌝ }
+pub fn write_steps(cluster: &[u8], allow: &AllowTable, pairs: &PairTable, out: &mut [u8]) -> Trail
+    requires { ⌜ (clusterCheck (now cluster) ≡ ClusterCheck.Whole) × Allows (now cluster) (now allow) × Pairs (now cluster) (now pairs) × (leastBuffer ≤ length (now out)) ⌝ }
     ensures { λ r. ⌜ Trailed (now (cluster .entry)) (now (out .entry)) (now (out .exit)) r ⌝ }
 {
     let vms = records::vm_count(cluster);

@@ -51,23 +51,27 @@ pub record Filling (places : List ℕ) (placement : Placement) (v : ℕ) : Type 
   pub is : take v places ≡ take v placement
   pub rest : drop v places ≡ replicate (256 - v) 0
 
--- the destination of each VM, 64 where it has no move
+-- the destination that stands for no move: one past the last node there can be
+abbrev pub noMove : ℕ
+noMove = 64
+
+-- the destination of each VM
 unfoldable pub destsFrom : Step → List ℕ
-destsFrom [] = replicate 256 64
+destsFrom [] = replicate 256 noMove
 destsFrom (move ∷ moves) = set (destsFrom moves) (move .vm) (move .to)
 
--- the cells of n VMs from v on, with the destinations of an array: 64 is none
+-- the cells of n VMs from v on, with the destinations of an array
 unfoldable pub goalIn : List ℕ → ℕ → Phase
-goalIn dests v = pick (eqb (getD dests v 0) 64) idle (running (getD dests v 0))
+goalIn dests v = pick (eqb (getD dests v 0) noMove) idle (running (getD dests v 0))
 
 unfoldable pub busyFrom : List ℕ → List ℕ → ℕ → ℕ → Moment
 busyFrom places dests v zero = []
 busyFrom places dests v (suc n) = cell v (getD places v 0) (goalIn dests v) ∷ busyFrom places dests (suc v) n
 
--- places and destinations are such that a tally can be kept: nodes or 64, and no VM goes where it is
+-- places and destinations are such that a tally can be kept: nodes, or no move, and no VM goes where it is
 pub record Ready (s places dests : List ℕ) : Type 0 where
   pub place : (v : ℕ) → v < vmCount s → getD places v 0 < 64
-  pub most : (v : ℕ) → v < vmCount s → getD dests v 0 ≤ 64
+  pub most : (v : ℕ) → v < vmCount s → getD dests v 0 ≤ noMove
   pub leaves : (v : ℕ) → v < vmCount s → getD dests v 0 ≡ getD places v 0 → ⊥
 
 -- the sums over the VMs from v on
@@ -137,18 +141,18 @@ pub record Allows (s table : List ℕ) : Type 0 where
 
 -- ---- spreads
 
--- each element is a node or 64
+-- each element is a node or no move
 pub record Nodes (l : List ℕ) : Type 0 where
-  pub each : (v : ℕ) → getD l v 0 ≤ 64
+  pub each : (v : ℕ) → getD l v 0 ≤ noMove
 
 -- marks where VMs start
 unfoldable pub startMarks : List ℕ → List ℕ → List ℕ → List ℕ
 startMarks marks places [] = marks
 startMarks marks places (v ∷ vs) = startMarks (set marks (getD places v 0) 1) places vs
 
--- 64 is never marked
+-- no move leaves no mark
 abbrev pub markOf : ℕ → ℕ
-markOf d = pick (ltb d 64) 1 0
+markOf d = pick (ltb d noMove) 1 0
 
 -- each VM arrives at an unmarked node, which is then marked
 unfoldable pub goUnmet : List ℕ → List ℕ → List ℕ → Bool

@@ -1,4 +1,7 @@
 // Where each VM may go, decided once for a call: 64 marks for each VM, 1 where it may, 0 where a ban or a fence keeps it away.
+use crate::arrays::ALLOWED;
+use crate::arrays::AllowTable;
+use crate::arrays::NODES;
 use crate::places::entry;
 use records::Kind;
 ghost use mathlib.Core.Path.{_≡_};
@@ -18,20 +21,20 @@ fn kept(stop: u8, old: u8) -> u8
 }
 
 // The row of VM v, without the stopped nodes.
-fn keep_row(v: usize, stop: &[u8; 64], table: &mut [u8; 16384])
+fn keep_row(v: usize, stop: &[u8; NODES], table: &mut AllowTable)
     requires { ⌜ v < 256 ⌝ }
     ensures { λ r. ⌜ now (table .exit) ≡ rowKept (now (table .entry)) (now (stop .entry)) v 64 ⌝ }
 {
     let mut d: usize = 0;
-    while d < 64 {
-        let at = v * 64 + d;
+    while d < NODES {
+        let at = v * NODES + d;
         table[at] = kept(stop[d], table[at]);
         d += 1;
     }
 }
 
 // The rows of the VMs, without the stopped nodes.
-fn keep_rows(vms: &[u8], stop: &[u8; 64], table: &mut [u8; 16384])
+fn keep_rows(vms: &[u8], stop: &[u8; NODES], table: &mut AllowTable)
     ensures { λ r. ⌜ now (table .exit) ≡ listKept (now (table .entry)) (now (stop .entry)) (now (vms .entry)) ⌝ }
 {
     let mut i: usize = 0;
@@ -42,11 +45,11 @@ fn keep_rows(vms: &[u8], stop: &[u8; 64], table: &mut [u8; 16384])
 }
 
 // Marks for the nodes named, on a ground.
-pub fn stops(nodes: &[u8], ground: u8, mark: u8) -> [u8; 64]
+pub fn stops(nodes: &[u8], ground: u8, mark: u8) -> [u8; NODES]
     requires { ⌜ Below 64 (now nodes) ⌝ }
     ensures { λ r. ⌜ r ≡ stopped (replicate 64 ground) mark (now (nodes .entry)) ⌝ }
 {
-    let mut marks = [ground; 64];
+    let mut marks = [ground; NODES];
     let mut i: usize = 0;
     while i < nodes.len() {
         let d = entry(nodes, i);
@@ -57,7 +60,7 @@ pub fn stops(nodes: &[u8], ground: u8, mark: u8) -> [u8; 64]
 }
 
 // The table, without what one constraint forbids: a ban stops the nodes it names, a fence all others.
-fn apply(p: &[u8], table: &mut [u8; 16384])
+fn apply(p: &[u8], table: &mut AllowTable)
     requires { ⌜ (filled (now p) ≡ true) × Below 64 (nodesOf (constraintOf (now p))) ⌝ }
     ensures { λ r. ⌜ now (table .exit) ≡ applied (now (table .entry)) (constraintOf (now (p .entry))) ⌝ }
 {
@@ -77,11 +80,11 @@ fn apply(p: &[u8], table: &mut [u8; 16384])
 }
 
 // The whole table.
-pub fn allow_table(cluster: &[u8]) -> [u8; 16384]
+pub fn allow_table(cluster: &[u8]) -> AllowTable
     requires { ⌜ clusterCheck (now cluster) ≡ ClusterCheck.Whole ⌝ }
     ensures { λ r. ⌜ r ≡ allowTable (roomOf (now (cluster .entry))) ⌝ }
 {
-    let mut table = [1u8; 16384];
+    let mut table = [1u8; ALLOWED];
     let mut at = records::first_constraint(cluster);
     let mut left = records::constraint_count(cluster);
     while 0 < left {

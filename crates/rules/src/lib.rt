@@ -1,7 +1,9 @@
 // The rules of a migration: what may happen in a step, and the verdict on a plan.
 mod allow;
+mod arrays;
 mod cost;
 mod faults;
+pub mod packing;
 mod places;
 mod spread;
 mod step;
@@ -25,6 +27,17 @@ pub use verdict::verdict_on;
 
 // What a plan costs.
 pub use cost::plan_cost;
+
+// The arrays that a call keeps.
+pub use arrays::ALLOWED;
+pub use arrays::AllowTable;
+pub use arrays::Destinations;
+pub use arrays::NO_MOVE;
+pub use arrays::NODES;
+pub use arrays::Placement;
+pub use arrays::SUMS;
+pub use arrays::Sums;
+pub use arrays::VMS;
 
 // A node's tally.
 pub use step::loads;

@@ -1,4 +1,8 @@
 // Placements: where each VM is, as an array of 256 places.
+use crate::arrays::Destinations;
+use crate::arrays::NO_MOVE;
+use crate::arrays::Placement;
+use crate::arrays::VMS;
 ghost use mathlib.Core.Path.{_≡_};
 ghost use Prim.Native.Nat.{_≤_, _<_};
 ghost use lib.ListN.{length, getD};
@@ -9,12 +13,12 @@ ghost use Rattle.rules.specs.Moments.{currentOf, targetOf, after};
 ghost use Rattle.rules.specs.Inner.{arrayOf, destsFrom};
 
 // Where the VMs are.
-pub fn current_places(cluster: &[u8]) -> [u8; 256]
+pub fn current_places(cluster: &[u8]) -> Placement
     requires { ⌜ clusterCheck (now cluster) ≡ ClusterCheck.Whole ⌝ }
     ensures { λ r. ⌜ r ≡ arrayOf (currentOf (roomOf (now (cluster .entry)))) ⌝ }
 {
     let n = records::vm_count(cluster);
-    let mut places = [0u8; 256];
+    let mut places = [0u8; VMS];
     let mut v: usize = 0;
     while v < n {
         places[v] = records::vm_current(cluster, v);
@@ -24,12 +28,12 @@ pub fn current_places(cluster: &[u8]) -> [u8; 256]
 }
 
 // Where the VMs are wanted.
-pub fn target_places(cluster: &[u8]) -> [u8; 256]
+pub fn target_places(cluster: &[u8]) -> Placement
     requires { ⌜ clusterCheck (now cluster) ≡ ClusterCheck.Whole ⌝ }
     ensures { λ r. ⌜ r ≡ arrayOf (targetOf (roomOf (now (cluster .entry)))) ⌝ }
 {
     let n = records::vm_count(cluster);
-    let mut places = [0u8; 256];
+    let mut places = [0u8; VMS];
     let mut v: usize = 0;
     while v < n {
         places[v] = records::vm_target(cluster, v);
@@ -39,7 +43,7 @@ pub fn target_places(cluster: &[u8]) -> [u8; 256]
 }
 
 // Where the VMs are after the step at a place of the plan.
-pub fn moved(plan: &[u8], at: usize, places: [u8; 256]) -> [u8; 256]
+pub fn moved(plan: &[u8], at: usize, places: Placement) -> Placement
     requires { ⌜ stepEnd (now plan) at ≤ length (now plan) ⌝ }
     ensures { λ r. ⌜ r ≡ after places (stepAt (now (plan .entry)) at) ⌝ }
 {
@@ -54,13 +58,13 @@ pub fn moved(plan: &[u8], at: usize, places: [u8; 256]) -> [u8; 256]
     next
 }
 
-// The destination of each VM in the step at a place of the plan: 64 where it has no move. The moves are taken last to first.
-pub fn destinations(plan: &[u8], at: usize) -> [u8; 256]
+// The destination of each VM in the step at a place of the plan. The moves are taken last to first.
+pub fn destinations(plan: &[u8], at: usize) -> Destinations
     requires { ⌜ stepEnd (now plan) at ≤ length (now plan) ⌝ }
     ensures { λ r. ⌜ r ≡ destsFrom (stepAt (now (plan .entry)) at) ⌝ }
 {
     let mut i = records::move_count(plan, at);
-    let mut dests = [64u8; 256];
+    let mut dests = [NO_MOVE; VMS];
     while 0 < i {
         i -= 1;
         let v = records::move_vm(plan, at, i) as usize;
@@ -70,7 +74,7 @@ pub fn destinations(plan: &[u8], at: usize) -> [u8; 256]
 }
 
 // What an array of places or destinations says of VM v.
-pub fn node_at(a: &[u8; 256], v: usize) -> usize
+pub fn node_at(a: &[u8; VMS], v: usize) -> usize
     requires { ⌜ v < 256 ⌝ }
     ensures { λ r. ⌜ (r ≡ getD (now (a .entry)) v 0) × (r < 256) ⌝ }
 {

@@ -1,4 +1,9 @@
 // 18: whether in a spread a moved VM meets a mate, with every move running. One pass marks where the VMs start, one their arrivals.
+use crate::arrays::Destinations;
+use crate::arrays::Marks;
+use crate::arrays::NODES;
+use crate::arrays::Placement;
+use crate::arrays::SUMS;
 use crate::places::entry;
 use crate::places::node_at;
 use records::Kind;
@@ -16,15 +21,15 @@ ghost use Rattle.rules.specs.Inner.{Nodes, startMarks, markOf, goUnmet, 
 fn mark_of(d: usize) -> u8
     ensures { λ r. ⌜ r ≡ markOf d ⌝ }
 {
-    if d < 64 { 1 } else { 0 }
+    if d < NODES { 1 } else { 0 }
 }
 
 // Marks where the VMs start.
-fn starts(vms: &[u8], places: &[u8; 256]) -> [u8; 65]
+fn starts(vms: &[u8], places: &Placement) -> Marks
     requires { ⌜ Nodes (now places) ⌝ }
     ensures { λ r. ⌜ r ≡ startMarks (replicate 65 0) (now (places .entry)) (now (vms .entry)) ⌝ }
 {
-    let mut marks = [0u8; 65];
+    let mut marks = [0u8; SUMS];
     let mut i: usize = 0;
     while i < vms.len() {
         let p = node_at(places, entry(vms, i));
@@ -35,7 +40,7 @@ fn starts(vms: &[u8], places: &[u8; 256]) -> [u8; 65]
 }
 
 // Whether each VM arrives at an unmarked node, which is then marked.
-pub fn arrive_apart(vms: &[u8], ground: [u8; 65], dests: &[u8; 256]) -> bool
+pub fn arrive_apart(vms: &[u8], ground: Marks, dests: &Destinations) -> bool
     requires { ⌜ Nodes (now dests) ⌝ }
     ensures { λ r. ⌜ r ≡ goUnmet ground (now (dests .entry)) (now (vms .entry)) ⌝ }
 {
@@ -53,7 +58,7 @@ pub fn arrive_apart(vms: &[u8], ground: [u8; 65], dests: &[u8; 256]) -> bool
 }
 
 // Whether the VMs of one spread arrive apart: no two at one node, and none where one starts.
-fn list_unmet(vms: &[u8], places: &[u8; 256], dests: &[u8; 256]) -> bool
+fn list_unmet(vms: &[u8], places: &Placement, dests: &Destinations) -> bool
     requires { ⌜ Nodes (now places) × Nodes (now dests) ⌝ }
     ensures { λ r. ⌜ r ≡ listUnmet (now (places .entry)) (now (dests .entry)) (now (vms .entry)) ⌝ }
 {
@@ -61,7 +66,7 @@ fn list_unmet(vms: &[u8], places: &[u8; 256], dests: &[u8; 256]) -> bool
 }
 
 // The same of a constraint: only a spread has mates.
-fn part_unmet(p: &[u8], places: &[u8; 256], dests: &[u8; 256]) -> bool
+fn part_unmet(p: &[u8], places: &Placement, dests: &Destinations) -> bool
     requires { ⌜ (filled (now p) ≡ true) × Nodes (now places) × Nodes (now dests) ⌝ }
     ensures { λ r. ⌜ r ≡ spreadOk (now (places .entry)) (now (dests .entry)) (constraintOf (now (p .entry))) ⌝ }
 {
@@ -75,7 +80,7 @@ fn part_unmet(p: &[u8], places: &[u8; 256], dests: &[u8; 256]) -> bool
 }
 
 // The same of all constraints.
-pub fn mates_unmet(cluster: &[u8], places: &[u8; 256], dests: &[u8; 256]) -> bool
+pub fn mates_unmet(cluster: &[u8], places: &Placement, dests: &Destinations) -> bool
     requires { ⌜ (clusterCheck (now cluster) ≡ ClusterCheck.Whole) × Nodes (now places) × Nodes (now dests) ⌝ }
     ensures { λ r. ⌜ r ≡ all (spreadOk (now (places .entry)) (now (dests .entry))) (roomOf (now (cluster .entry)) .constraints) ⌝ }
 {

@@ -1,4 +1,10 @@
 // A step against a placement: refusals 15 to 18.
+use crate::arrays::AllowTable;
+use crate::arrays::Destinations;
+use crate::arrays::NODES;
+use crate::arrays::Placement;
+use crate::arrays::SUMS;
+use crate::arrays::Sums;
 use crate::faults::StepCheck;
 use crate::faults::StepFault;
 use crate::places::destinations;
@@ -17,7 +23,7 @@ ghost use Rattle.rules.specs.Rules.{named, permitted, stepCheck};
 ghost use Rattle.rules.specs.Inner.{Held, Placed, runningCheck, held, Ready, Loads, Aimed, Allows, fitsIn};
 
 // 15: whether each VM and destination is there, the VMs rise, and no destination is its source.
-pub fn well_named(cluster: &[u8], plan: &[u8], at: usize, places: &[u8; 256]) -> bool
+pub fn well_named(cluster: &[u8], plan: &[u8], at: usize, places: &Placement) -> bool
     requires { ⌜ (clusterCheck (now cluster) ≡ ClusterCheck.Whole) × (stepEnd (now plan) at ≤ length (now plan)) ⌝ }
     ensures { λ r. ⌜ r ≡ named (roomOf (now (cluster .entry))) (held (now (cluster .entry)) (now (places .entry))) 0 (stepAt (now (plan .entry)) at) ⌝ }
 {
@@ -48,12 +54,12 @@ pub fn well_named(cluster: &[u8], plan: &[u8], at: usize, places: &[u8; 256]) ->
     true
 }
 
-// The tally of each node with every move running. Where a VM has no move, its destination is 64, which is no node.
-pub fn loads(cluster: &[u8], places: &[u8; 256], dests: &[u8; 256]) -> [Tally; 65]
+// The tally of each node with every move running. A VM without a move counts on NO_MOVE too, whose sum is emptied at the end.
+pub fn loads(cluster: &[u8], places: &Placement, dests: &Destinations) -> Sums
     requires { ⌜ (clusterCheck (now cluster) ≡ ClusterCheck.Whole) × Ready (now cluster) (now places) (now dests) ⌝ }
     ensures { λ r. ⌜ Loads (now (cluster .entry)) (now (places .entry)) (now (dests .entry)) r ⌝ }
 {
-    let mut sums = [Tally::EMPTY; 65];
+    let mut sums = [Tally::EMPTY; SUMS];
     let mut left = records::vm_count(cluster);
     while 0 < left {
         let v = left - 1;
@@ -66,12 +72,12 @@ pub fn loads(cluster: &[u8], places: &[u8; 256], dests: &[u8; 256]) -> [Tally; 6
         sums[p] = here.with(vm);
         left = v;
     }
-    sums[64] = Tally::EMPTY;
+    sums[NODES] = Tally::EMPTY;
     sums
 }
 
 // 17: whether the tally of each destination, with every move running, is within what the node has.
-pub fn fits_running(cluster: &[u8], plan: &[u8], at: usize, sums: [Tally; 65]) -> bool
+pub fn fits_running(cluster: &[u8], plan: &[u8], at: usize, sums: Sums) -> bool
     requires { ⌜ (clusterCheck (now cluster) ≡ ClusterCheck.Whole) × (stepEnd (now plan) at ≤ length (now plan)) × Aimed (now cluster) (stepAt (now plan) at) ⌝ }
     ensures { λ r. ⌜ r ≡ fitsIn (roomOf (now (cluster .entry))) sums (stepAt (now (plan .entry)) at) ⌝ }
 {
@@ -89,7 +95,7 @@ pub fn fits_running(cluster: &[u8], plan: &[u8], at: usize, sums: [Tally; 65]) -
 }
 
 // 16: whether the table allows each move.
-pub fn moves_allowed(cluster: &[u8], plan: &[u8], at: usize, table: &[u8; 16384]) -> bool
+pub fn moves_allowed(cluster: &[u8], plan: &[u8], at: usize, table: &AllowTable) -> bool
     requires { ⌜ (clusterCheck (now cluster) ≡ ClusterCheck.Whole) × (stepEnd (now plan) at ≤ length (now plan)) × Aimed (now cluster) (stepAt (now plan) at) × Allows (now cluster) (now table) ⌝ }
     ensures { λ r. ⌜ r ≡ permitted (roomOf (now (cluster .entry))) (stepAt (now (plan .entry)) at) ⌝ }
 {
@@ -98,7 +104,7 @@ pub fn moves_allowed(cluster: &[u8], plan: &[u8], at: usize, table: &[u8; 16384]
     while i < n {
         let v = records::move_vm(plan, at, i) as usize;
         let d = records::move_to(plan, at, i) as usize;
-        if table[v * 64 + d] == 0 {
+        if table[v * NODES + d] == 0 {
             return false;
         }
         i += 1;
@@ -107,7 +113,7 @@ pub fn moves_allowed(cluster: &[u8], plan: &[u8], at: usize, table: &[u8; 16384]
 }
 
 // 17 and 18, of a step that is well named and allowed.
-fn running_check(cluster: &[u8], plan: &[u8], at: usize, places: &[u8; 256]) -> StepCheck
+fn running_check(cluster: &[u8], plan: &[u8], at: usize, places: &Placement) -> StepCheck
     requires { ⌜ Held (now cluster) (now plan) at (now places) ⌝ }
     ensures { λ r. ⌜ r ≡ runningCheck (roomOf (now (cluster .entry))) (held (now (cluster .entry)) (now (places .entry))) (stepAt (now (plan .entry)) at) ⌝ }
 {
@@ -127,8 +133,8 @@ pub fn step_check(
     cluster: &[u8],
     plan: &[u8],
     at: usize,
-    places: [u8; 256],
-    table: &[u8; 16384],
+    places: Placement,
+    table: &AllowTable,
 ) -> StepCheck
     requires { ⌜ (clusterCheck (now cluster) ≡ ClusterCheck.Whole) × (stepEnd (now plan) at ≤ length (now plan)) × Allows (now cluster) (now table) × Placed (now cluster) places ⌝ }
     ensures { λ r. ⌜ r ≡ stepCheck (roomOf (now (cluster .entry))) (held (now (cluster .entry)) places) (stepAt (now (plan .entry)) at) ⌝ }

@@ -1,5 +1,6 @@
 // The verdict on a plan: the whole checking order, and its packing into one number.
 use crate::allow::allow_table;
+use crate::arrays::AllowTable;
 use crate::cost::plan_cost;
 use crate::faults::Fault;
 use crate::faults::StepCheck;
@@ -7,6 +8,7 @@ use crate::faults::TargetCheck;
 use crate::faults::Verdict;
 use crate::faults::fault_number;
 use crate::faults::fault_step;
+use crate::packing;
 use crate::places::current_places;
 use crate::places::moved;
 use crate::step::step_check;
@@ -25,7 +27,7 @@ ghost use Rattle.rules.specs.Verdict.{onTarget, onPlan, planVerdict, ver
 ghost use Rattle.rules.specs.Inner.{Allows, stepOf};
 
 // The steps in turn, each from a copy of the placement before it; then 19, else the cost.
-fn steps_verdict(cluster: &[u8], plan: &[u8], table: &[u8; 16384]) -> Verdict
+fn steps_verdict(cluster: &[u8], plan: &[u8], table: &AllowTable) -> Verdict
     requires { ⌜ (clusterCheck (now cluster) ≡ ClusterCheck.Whole) × (planCheck (now plan) ≡ PlanCheck.Whole) × Allows (now cluster) (now table) ⌝ }
     ensures { λ r. ⌜ r ≡ planVerdict (roomOf (now (cluster .entry))) (stepsOf (now (plan .entry))) ⌝ }
 {
@@ -95,6 +97,8 @@ pub fn pack(v: Verdict) -> u64
 {
     match v {
         Verdict::Accepted(cost) => cost,
-        Verdict::Refused(f) => 9223372036854775808 + fault_number(f) * 65536 + fault_step(f) as u64,
+        Verdict::Refused(f) => packing::REFUSED
+            + fault_number(f) * packing::NUMBER
+            + fault_step(f) as u64,
     }
 }

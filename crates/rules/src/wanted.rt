@@ -1,5 +1,11 @@
 // The target of a cluster: refusals 8 and 9; and whether a placement is the target (19).
 use crate::allow::stops;
+use crate::arrays::NO_MOVE;
+use crate::arrays::NODES;
+use crate::arrays::Placement;
+use crate::arrays::SUMS;
+use crate::arrays::Sums;
+use crate::arrays::VMS;
 use crate::faults::TargetCheck;
 use crate::faults::TargetFault;
 use crate::places::entry;
@@ -7,7 +13,6 @@ use crate::places::node_at;
 use crate::places::target_places;
 use crate::spread::arrive_apart;
 use crate::step::loads;
-use crate::tally::Tally;
 use crate::tally::within_node;
 use records::Kind;
 ghost use mathlib.Core.Path.{_≡_};
@@ -23,7 +28,7 @@ ghost use Rattle.rules.specs.Verdict.{home};
 ghost use Rattle.rules.specs.Inner.{held, Placed, Low, Formed, fitsUpTo, clearOf, groupHolds, keepsIn};
 
 // Whether the tally of every node is within what it has.
-fn all_fit(cluster: &[u8], sums: [Tally; 65]) -> bool
+fn all_fit(cluster: &[u8], sums: Sums) -> bool
     requires { ⌜ clusterCheck (now cluster) ≡ ClusterCheck.Whole ⌝ }
     ensures { λ r. ⌜ r ≡ fitsUpTo (roomOf (now (cluster .entry))) sums 0 (nodeCount (now (cluster .entry))) ⌝ }
 {
@@ -40,17 +45,17 @@ fn all_fit(cluster: &[u8], sums: [Tally; 65]) -> bool
 }
 
 // 8: whether all VMs at rest on their places fit.
-fn places_fit(cluster: &[u8], places: &[u8; 256]) -> bool
+fn places_fit(cluster: &[u8], places: &Placement) -> bool
     requires { ⌜ (clusterCheck (now cluster) ≡ ClusterCheck.Whole) × Placed (now cluster) (now places) ⌝ }
     ensures { λ r. ⌜ r ≡ fitsAll (roomOf (now (cluster .entry))) (held (now (cluster .entry)) (now (places .entry))) ⌝ }
 {
-    let dests = [64u8; 256];
+    let dests = [NO_MOVE; VMS];
     let sums = loads(cluster, places, &dests);
     all_fit(cluster, sums)
 }
 
 // Whether none of the VMs is on a stopped node.
-fn list_clear(vms: &[u8], stop: &[u8; 64], places: &[u8; 256]) -> bool
+fn list_clear(vms: &[u8], stop: &[u8; NODES], places: &Placement) -> bool
     requires { ⌜ Low (now places) ⌝ }
     ensures { λ r. ⌜ r ≡ clearOf (now (stop .entry)) (now (places .entry)) (now (vms .entry)) ⌝ }
 {
@@ -66,7 +71,7 @@ fn list_clear(vms: &[u8], stop: &[u8; 64], places: &[u8; 256]) -> bool
 }
 
 // Whether some group of a latency constraint has all the VMs.
-fn groups_hold(p: &[u8], vms: &[u8], places: &[u8; 256]) -> bool
+fn groups_hold(p: &[u8], vms: &[u8], places: &Placement) -> bool
     requires { ⌜ Formed (now p) × (kindOf (constraintOf (now p)) ≡ Kind.Latency) × Low (now places) ⌝ }
     ensures { λ r. ⌜ r ≡ some (groupHolds (now (places .entry)) (now (vms .entry))) (groupsOf (constraintOf (now (p .entry)))) ⌝ }
 {
@@ -85,7 +90,7 @@ fn groups_hold(p: &[u8], vms: &[u8], places: &[u8; 256]) -> bool
 }
 
 // 9: whether the places keep a constraint.
-fn part_kept(p: &[u8], places: &[u8; 256]) -> bool
+fn part_kept(p: &[u8], places: &Placement) -> bool
     requires { ⌜ Formed (now p) × Low (now places) ⌝ }
     ensures { λ r. ⌜ r ≡ keepsIn (now (places .entry)) (constraintOf (now (p .entry))) ⌝ }
 {
@@ -100,7 +105,7 @@ fn part_kept(p: &[u8], places: &[u8; 256]) -> bool
             let stop = stops(records::named_nodes(p), 1, 0);
             list_clear(vms, &stop, places)
         }
-        Kind::Spread => arrive_apart(vms, [0u8; 65], places),
+        Kind::Spread => arrive_apart(vms, [0u8; SUMS], places),
         Kind::Latency => {
             if vms.len() == 0 {
                 return true;
@@ -111,7 +116,7 @@ fn part_kept(p: &[u8], places: &[u8; 256]) -> bool
 }
 
 // 9, of all constraints.
-fn all_kept(cluster: &[u8], places: &[u8; 256]) -> bool
+fn all_kept(cluster: &[u8], places: &Placement) -> bool
     requires { ⌜ (clusterCheck (now cluster) ≡ ClusterCheck.Whole) × Low (now places) ⌝ }
     ensures { λ r. ⌜ r ≡ all (keepsIn (now (places .entry))) (roomOf (now (cluster .entry)) .constraints) ⌝ }
 {
@@ -144,7 +149,7 @@ pub fn target_check(cluster: &[u8]) -> TargetCheck
 }
 
 // 19: whether every VM is on its target.
-pub fn at_home(cluster: &[u8], places: &[u8; 256]) -> bool
+pub fn at_home(cluster: &[u8], places: &Placement) -> bool
     requires { ⌜ clusterCheck (now cluster) ≡ ClusterCheck.Whole ⌝ }
     ensures { λ r. ⌜ r ≡ home (roomOf (now (cluster .entry))) (held (now (cluster .entry)) (now (places .entry))) ⌝ }
 {

@@ -1,4 +1,4 @@
--- Laws on the bytes that are lent: the front of a buffer, and what stands in for a plan file that is too long for one.
+-- Laws on what stands in for a plan file that is too long for its buffer.
 use Prim.Native.Nat.{ℕ, zero, suc, _+_, _-_, _*_, _≤_, _<_}
 use mathlib.Core.Bool.{Bool, true, false, _&&_}
 use mathlib.Core.List.{List, [], _∷_}
@@ -7,7 +7,7 @@ use native.Mathlib.Omega.{arith}
 use native.Mathlib.Decide.{ℕ-discrete}
 use mathlib.Core.Logic.{by-cases}
 use lib.ListN.{length, getD, take}
-use lib.Seq.{getD-take, take-all}
+use lib.Seq.{getD-take}
 use lib.Dec.{leb, eqb}
 use borrow.Author.Tests.{leb-true, ne-eqb}
 use Rattle.records.specs.Base.{all, sumOf}
@@ -18,12 +18,6 @@ use Rattle.records.specs.declared.faults.PlanCheck.the-variants.{Damaged}
 use Rattle.records.proofs.Laws.Bools.{and-left, and-right}
 use Rattle.records.proofs.Laws.Steps.{step-length, steps-length, plan-version, plan-length, plan-shape}
 use Rattle.verdict.specs.Long.{Alike}
-
-pub front-part : (l : List ℕ) (n : ℕ) → take (n - 0) l ≡ take n l
-front-part l n = let e : n - 0 ≡ n = omega arith in rw e
-
-pub front-all : (l : List ℕ) (n : ℕ) → length l ≤ n → l ≡ take n l
-front-all l n h = sym (take-all n l h)
 
 -- steps take two bytes each and two for each move
 steps-size : (s : List ℕ) (at n : ℕ) → stepsEnd s at n ≡ at + n * 2 + moveTotal (stepsFrom s at n) * 2

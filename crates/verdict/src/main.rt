@@ -1,15 +1,17 @@
 // Prints the verdict on a plan for a cluster: `accepted cost N` or `refused N step S`. Its arguments name the files of the two records.
-mod file;
-
-use file::Size;
+use files::Size;
 use libc::STDERR_FILENO;
 use libc::STDOUT_FILENO;
 use rules::Fault;
 use rules::Verdict;
 ghost use Prim.Native.Nat.{_<_};
-ghost use mathlib.Core.Path.{_≡_};
-ghost use lib.ListN.{take};
 ghost use Rattle.verdict.specs.Long.{Alike};
+
+// A cluster record has at most 65,535 bytes: one more is too long, whatever follows it. Of a plan file the size matters up to what a
+// record can state, 4,294,967,295.
+const CLUSTER_ENOUGH: usize = 65536;
+
+const PLAN_ENOUGH: usize = 4294967296;
 
 // A word and a number.
 fn field(word: &[u8], n: u64) {
@@ -47,23 +49,11 @@ fn stand_in(plan: &[u8; 65536], size: usize) -> [u8; 8]
     }
 }
 
-// So many bytes of a buffer, or all that it has.
-fn front(buffer: &[u8], n: usize) -> &[u8]
-    ensures { λ r. ⌜ now r ≡ take n (now (buffer .entry)) ⌝ }
-{
-    if n < buffer.len() {
-        &buffer[0..n]
-    } else {
-        buffer
-    }
-}
-
-// The line of the verdict on files of so many bytes, whose first are in the buffers. A cluster record has at most 65,535 bytes: a full
-// buffer is one too long, whatever follows it.
+// The line of the verdict on files of so many bytes, whose first are in the buffers.
 fn judged_files(cluster: &[u8; 65536], n: usize, plan: &[u8; 65536], m: usize) {
-    let record = front(cluster, n);
+    let record = files::front(cluster, n);
     if m <= 65536 {
-        judged(record, front(plan, m));
+        judged(record, files::front(plan, m));
     } else {
         let short = stand_in(plan, m);
         judged(record, &short);
@@ -80,11 +70,11 @@ fn main() {
     }
     let mut cluster = io::large_buffer();
     let mut plan = io::large_buffer();
-    let first = file::load(1, &mut cluster);
+    let first = files::load(b"verdict", 1, &mut cluster, CLUSTER_ENOUGH);
     let Size::Bytes(n) = first else {
         return;
     };
-    let second = file::load(2, &mut plan);
+    let second = files::load(b"verdict", 2, &mut plan, PLAN_ENOUGH);
     let Size::Bytes(m) = second else {
         return;
     };

@@ -13,8 +13,18 @@ pub mod timing;
 
 mod c {
     extern "C" {
-        pub fn check(cluster: *const u8, clusters: usize, plan: *const u8, plans: usize) -> u64;
-        pub fn build(cluster: *const u8, clusters: usize, out: *mut u8, outs: usize) -> u64;
+        pub fn kobdrieft_check(
+            cluster: *const u8,
+            cluster_len: usize,
+            plan: *const u8,
+            plan_len: usize,
+        ) -> u64;
+        pub fn kobdrieft_build(
+            cluster: *const u8,
+            cluster_len: usize,
+            out: *mut u8,
+            out_len: usize,
+        ) -> u64;
     }
 }
 
@@ -22,13 +32,13 @@ mod c {
 pub fn check(cluster: &[u8], plan: &[u8]) -> u64 {
     // SAFETY: each pointer can be read for the length beside it. An empty slice has a pointer
     // that is not null, and no byte of it is read.
-    unsafe { c::check(cluster.as_ptr(), cluster.len(), plan.as_ptr(), plan.len()) }
+    unsafe { c::kobdrieft_check(cluster.as_ptr(), cluster.len(), plan.as_ptr(), plan.len()) }
 }
 
 /// Builds a plan for a cluster at the front of `out`; the packed answer.
 pub fn build(cluster: &[u8], out: &mut [u8]) -> u64 {
     // SAFETY: as in `check`, and `out` can be written for its length and overlaps nothing.
-    unsafe { c::build(cluster.as_ptr(), cluster.len(), out.as_mut_ptr(), out.len()) }
+    unsafe { c::kobdrieft_build(cluster.as_ptr(), cluster.len(), out.as_mut_ptr(), out.len()) }
 }
 
 /// How many guard bytes stand on either side. An odd number also lends odd addresses.
@@ -77,11 +87,11 @@ impl Lent {
 /// As `check`, over watched bytes.
 pub fn check_lent(cluster: &mut Lent, plan: &mut Lent) -> u64 {
     // SAFETY: both pointers stay within their vectors for the length beside them.
-    unsafe { c::check(cluster.pointer(), cluster.len(), plan.pointer(), plan.len()) }
+    unsafe { c::kobdrieft_check(cluster.pointer(), cluster.len(), plan.pointer(), plan.len()) }
 }
 
 /// As `build`, over watched bytes.
 pub fn build_lent(cluster: &mut Lent, out: &mut Lent) -> u64 {
     // SAFETY: as in `check_lent`; the two vectors are apart.
-    unsafe { c::build(cluster.pointer(), cluster.len(), out.pointer(), out.len()) }
+    unsafe { c::kobdrieft_build(cluster.pointer(), cluster.len(), out.pointer(), out.len()) }
 }

@@ -1,9 +1,10 @@
 //! The trainer's command: records from text and back, plans, verdicts and pictures.
 
+use kobdrieft_model::draw::{page, Whose};
 use kobdrieft_model::form::{read_cluster, read_plan, write_cluster, write_plan, Fault};
 use kobdrieft_model::reasons::reason;
 use kobdrieft_model::text::{planned, verdict_text};
-use kobdrieft_model::{check, cluster_bytes, draw, parse_cluster, parse_plan, plan_bytes, Verdict};
+use kobdrieft_model::{check, cluster_bytes, parse_cluster, parse_plan, plan_bytes, Room, Step};
 use std::{env, fs, io::Write, process::ExitCode};
 
 const USAGE: &str = "\
@@ -13,22 +14,32 @@ room pack-plan TEXT PLAN         a plan's text to its record
 room unpack-plan PLAN [TEXT]     a plan record to text
 room plan CLUSTER PLAN           make a plan, write its record, print what the planning program prints
 room check CLUSTER PLAN          print the verdict
-room draw CLUSTER PLAN PAGE      draw a plan as an HTML page
+room draw CLUSTER PLAN PAGE [VERDICT]
+                                 draw a plan as an HTML page; VERDICT is the line that the proved checker
+                                 prints for it, else the page shows the model's own
+exit status: 0 plan or accepted, or done; 1 blocked; 2 refused, or a damaged record;
+             3 wrong use, or a file that cannot be read or written
 ";
 
-/// What goes wrong, as a line to print behind `room: `.
-type Outcome = Result<(), String>;
+const DONE: u8 = 0;
+const BLOCKED: u8 = 1;
+const REFUSED: u8 = 2;
+const WRONG: u8 = 3;
+
+/// An exit status, and what went wrong as a line to print behind `room: `.
+struct Failure(u8, String);
+
+/// The exit status of what did not go wrong.
+type Outcome = Result<u8, Failure>;
 
 fn main() -> ExitCode {
     let words: Vec<String> = env::args().skip(1).collect();
     let words: Vec<&str> = words.iter().map(String::as_str).collect();
-    match run(&words) {
-        Ok(()) => ExitCode::SUCCESS,
-        Err(why) => {
-            eprintln!("room: {why}");
-            ExitCode::FAILURE
-        }
-    }
+    let status = run(&words).unwrap_or_else(|Failure(status, why)| {
+        eprintln!("room: {why}");
+        status
+    });
+    ExitCode::from(status)
 }
 
 fn run(words: &[&str]) -> Outcome {
@@ -50,10 +61,15 @@ fn run(words: &[&str]) -> Outcome {
             give(text.first(), &write_plan(&steps))
         }
         ["plan", cluster, plan] => make_plan(cluster, plan),
-        ["check", cluster, plan] => check_plan(cluster, plan),
-        ["draw", cluster, plan, page] => draw_plan(cluster, plan, page),
+        ["check", cluster, plan] => answer(&verdict_text(check(&read(cluster)?, &read(plan)?))),
+        ["draw", cluster, plan, page, ref verdict @ ..] if verdict.len() < 2 => {
+            draw_plan(cluster, plan, page, verdict.first())
+        }
         ["help" | "--help" | "-h"] => give(None, USAGE),
-        _ => Err(format!("these words are not understood; it takes one of\n{}", USAGE.trim_end())),
+        _ => {
+            let usage = USAGE.trim_end();
+            Err(wrong(format!("these words are not understood; it takes one of\n{usage}")))
+        }
     }
 }
 
@@ -63,52 +79,76 @@ fn make_plan(cluster: &str, plan: &str) -> Outcome {
     if let Some(steps) = steps {
         write(plan, &steps)?;
     }
-    give(None, &text)
+    answer(&text)
 }
 
-/// Prints the verdict, and beside it, as a remark, why a plan is refused.
-fn check_plan(cluster: &str, plan: &str) -> Outcome {
-    let verdict = check(&read(cluster)?, &read(plan)?);
-    give(None, &verdict_text(verdict))?;
-    if let Verdict::Refused { number, .. } = verdict {
-        eprintln!("room: {}", reason(number));
+/// Prints an answer and ends by its first word; what a refusal means is a remark beside it.
+fn answer(text: &str) -> Outcome {
+    give(None, text)?;
+    match text.split_whitespace().collect::<Vec<&str>>()[..] {
+        ["refused", number, ..] => {
+            let number = number.parse().unwrap_or(0);
+            Err(Failure(REFUSED, reason(number).into()))
+        }
+        ["blocked", ..] => Ok(BLOCKED),
+        _ => Ok(DONE),
     }
-    Ok(())
 }
 
-fn draw_plan(cluster: &str, plan: &str, page: &str) -> Outcome {
+fn draw_plan(cluster: &str, plan: &str, to: &str, verdict: Option<&&str>) -> Outcome {
     let room = record(cluster, parse_cluster)?;
     let steps = record(plan, parse_plan)?;
-    let drawn = draw::page(&room, &steps).map_err(|why| format!("{plan}: {why}"))?;
-    write(page, drawn.as_bytes())
+    let whose = match verdict {
+        Some(line) => agreed(&room, &steps, line)?,
+        None => Whose::Model,
+    };
+    let unfit = |why| Failure(REFUSED, format!("{plan}: {why}"));
+    write(to, page(&room, &steps, whose).map_err(unfit)?.as_bytes())
+}
+
+/// A verdict is shown as the proved checker's only if the model's is the same.
+fn agreed(room: &Room, steps: &[Step], line: &str) -> Result<Whose, Failure> {
+    let own = verdict_text(check(&cluster_bytes(room), &plan_bytes(steps)));
+    let (own, line) = (own.trim_end(), line.trim());
+    if own == line {
+        return Ok(Whose::Checker);
+    }
+    Err(wrong(format!(
+        "the verdicts differ: '{line}' is given, the model says '{own}'; nothing is drawn"
+    )))
 }
 
 // ---------------------------------------------------------------- files
 
-fn read(name: &str) -> Result<Vec<u8>, String> {
-    fs::read(name).map_err(|error| format!("{name}: cannot be read ({error})"))
+fn wrong(why: String) -> Failure {
+    Failure(WRONG, why)
+}
+
+fn read(name: &str) -> Result<Vec<u8>, Failure> {
+    fs::read(name).map_err(|error| wrong(format!("{name}: cannot be read ({error})")))
 }
 
 fn write(name: &str, bytes: &[u8]) -> Outcome {
-    fs::write(name, bytes).map_err(|error| format!("{name}: cannot be written ({error})"))
+    let failed = |error| wrong(format!("{name}: cannot be written ({error})"));
+    fs::write(name, bytes).map(|()| DONE).map_err(failed)
 }
 
 /// Text to a file, or to standard output if none is named.
 fn give(name: Option<&&str>, text: &str) -> Outcome {
-    match name {
-        Some(name) => write(name, text.as_bytes()),
-        None => std::io::stdout()
-            .write_all(text.as_bytes())
-            .map_err(|error| format!("cannot print ({error})")),
-    }
+    let Some(name) = name else {
+        let failed = |error| wrong(format!("cannot print ({error})"));
+        return std::io::stdout().write_all(text.as_bytes()).map(|()| DONE).map_err(failed);
+    };
+    write(name, text.as_bytes())
 }
 
 /// Reads a record that must be undamaged.
-fn record<T>(name: &str, parse: fn(&[u8]) -> Result<T, u8>) -> Result<T, String> {
-    let damage = |number| format!("{name}: refused with number {number}: {}", reason(number));
-    parse(&read(name)?).map_err(damage)
+fn record<T>(name: &str, parse: fn(&[u8]) -> Result<T, u8>) -> Result<T, Failure> {
+    parse(&read(name)?).map_err(|number| {
+        Failure(REFUSED, format!("{name}: refused with number {number}: {}", reason(number)))
+    })
 }
 
-fn at(name: &str, Fault { line, reason }: Fault) -> String {
-    format!("{name}:{line}: {reason}")
+fn at(name: &str, Fault { line, reason }: Fault) -> Failure {
+    wrong(format!("{name}:{line}: {reason}"))
 }

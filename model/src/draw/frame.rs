@@ -1,13 +1,14 @@
 //! What each frame of the page shows: which VMs stand on which node, and how.
 
-use super::many;
-use crate::form::{number_list, NODES, VMS};
-use crate::reasons::reason;
+use super::blame::Blame;
+use super::words::{behind, many, moves, stranger, Spent};
 use crate::records::{Move, Room, Step};
-use crate::rules::{step_cost, step_fault, Book, Placement, Sum};
+use crate::rules::{Placement, Sum, Verdict};
 
-/// More ways than this are only counted.
-const MOST_WAYS: usize = 24;
+/// Up to this many nodes are all shown in every frame, unless the page would have more blocks
+/// than this.
+const MOST_NODES: usize = 16;
+const MOST_BLOCKS: usize = 8_000;
 
 /// How a VM stands on a node.
 #[derive(Clone, Copy, Debug, PartialEq, Eq)]
@@ -23,12 +24,18 @@ pub struct Block {
     pub role: Role,
 }
 
-/// One picture: its words, and the blocks of each node from the bottom up.
-#[derive(Clone, Debug)]
+/// One picture: its words, the nodes it shows, and the blocks of each node from the bottom up.
+#[derive(Clone, Debug, Default)]
 pub struct Frame {
     pub title: String,
     pub notes: Vec<String>,
+    /// Between steps; such a frame names every VM, others at least those that move.
+    pub still: bool,
+    /// Shows only the nodes that its step touches.
+    pub brief: bool,
     pub refused: bool,
+    pub blame: Blame,
+    pub shown: Vec<usize>,
     pub nodes: Vec<Vec<Block>>,
 }
 
@@ -52,35 +59,60 @@ impl Frame {
         };
         self.nodes.iter().enumerate().map(off).sum()
     }
+
+    fn refuse(&mut self, number: u8) {
+        self.refused = true;
+        self.title += ", refused";
+        self.notes.push(format!("Refused with number {number}."));
+    }
 }
 
-/// The start, each step with all its moves running, and the end.
-pub fn frames(room: &Room, steps: &[Step]) -> Result<Vec<Frame>, String> {
-    let book = Book::of(room);
+/// The start, each step with all its moves running, and the end. A refused step is the last.
+pub fn frames(room: &Room, steps: &[Step], verdict: Verdict) -> Result<Vec<Frame>, String> {
+    let (number, refused) = match verdict {
+        Verdict::Accepted { .. } => (0, 0),
+        Verdict::Refused { number, step } => (number, usize::from(step)),
+    };
+    let drawn = if refused > 0 { refused } else { steps.len() };
+    let brief = room.nodes.len() > MOST_NODES || room.vms.len() * (drawn + 2) > MOST_BLOCKS;
     let mut here = Placement::current(room);
     let mut spent = Spent::default();
     let mut frames = vec![still(room, &here, "Start")];
-    for (i, step) in steps.iter().enumerate() {
+    for (i, step) in steps.iter().take(drawn).enumerate() {
         if let Some(why) = stranger(room, &here, step) {
             return Err(format!("this plan is not one for this cluster: in step {}, {why}", i + 1));
         }
         let mut frame = running(room, &here, step);
         frame.title = format!("Step {} of {}", i + 1, steps.len());
-        frame.notes = vec![moves(&here, step), spent.step(room, step)];
-        if let Some(number) = step_fault(room, &book, &here, step) {
-            frame.refused = true;
-            frame.notes.push(format!("Refused with number {number}: {}.", reason(number)));
+        frame.notes = vec![moves(room, &here, step)];
+        if brief {
+            frame.brief = true;
+            frame.shown.retain(|&node| touches(&here, step, node));
+        }
+        if i + 1 == refused {
+            frame.refuse(number);
+            frame.blame = Blame::of(room, &here, step, number);
+            frame.notes.extend(frame.blame.notes());
+            frame.notes.extend(behind(steps.len() - refused));
+        } else {
+            frame.notes.push(spent.step(room, step));
         }
         frames.push(frame);
         here = here.after(room, step);
     }
-    frames.push(still(room, &here, "End"));
+    if refused == 0 {
+        let mut end = still(room, &here, "End");
+        if number == 19 {
+            end.refuse(number);
+        }
+        frames.push(end);
+    }
     Ok(frames)
 }
 
 /// A frame between steps.
 fn still(room: &Room, here: &Placement, title: &str) -> Frame {
-    let frame = Frame { title: title.into(), ..running(room, here, &[]) };
+    let frame = Frame { title: title.into(), still: true, ..running(room, here, &[]) };
     let note = match frame.astray(room) {
         0 => "Every VM is on its target.".into(),
         n => format!("{} off target.", many(n, "VM")),
@@ -99,67 +131,14 @@ fn running(room: &Room, here: &Placement, step: &[Move]) -> Frame {
     for &Move { vm, to } in step {
         nodes[to].push(Block { vm, role: Role::Arrives { from: here.place[vm] } });
     }
-    Frame { title: String::new(), notes: vec![], refused: false, nodes }
+    Frame { shown: (0..nodes.len()).collect(), nodes, ..Frame::default() }
 }
 
-/// Why a step does not fit the cluster, if it does not: fault 15 in words.
-fn stranger(room: &Room, here: &Placement, step: &[Move]) -> Option<String> {
-    let mut before = None;
-    for &Move { vm, to } in step {
-        if vm >= room.vms.len() {
-            return Some(VMS.missing(vm as u64, room.vms.len()));
-        }
-        if to >= room.nodes.len() {
-            return Some(NODES.missing(to as u64, room.nodes.len()));
-        }
-        if let Some(before) = before.filter(|&before| before >= vm) {
-            return Some(format!("VM {vm} stands behind VM {before}; the VMs of a step rise"));
-        }
-        if here.place[vm] == to {
-            return Some(format!("VM {vm} goes to node {to}, where it already is"));
-        }
-        before = Some(vm);
-    }
-    None
+fn touches(here: &Placement, step: &[Move], node: usize) -> bool {
+    step.iter().any(|m| m.to == node || here.place[m.vm] == node)
 }
 
-/// The moves of a step in words, those that go the same way together.
-fn moves(here: &Placement, step: &[Move]) -> String {
-    let mut ways: Vec<(usize, usize, Vec<usize>)> = Vec::new();
-    for &Move { vm, to } in step {
-        let from = here.place[vm];
-        match ways.iter_mut().find(|way| (way.0, way.1) == (from, to)) {
-            Some(way) => way.2.push(vm),
-            None => ways.push((from, to, vec![vm])),
-        }
-    }
-    let mut words: Vec<String> = ways.iter().take(MOST_WAYS).map(way_words).collect();
-    let more: usize = ways.iter().skip(MOST_WAYS).map(|way| way.2.len()).sum();
-    if more > 0 {
-        words.push(format!("and {more} more"));
-    }
-    format!("{}.", words.join(", "))
-}
-
-fn way_words((from, to, vms): &(usize, usize, Vec<usize>)) -> String {
-    let noun = if vms.len() == 1 { "VM" } else { "VMs" };
-    format!("{noun} {} from node {from} to {to}", number_list(vms, ""))
-}
-
-/// What the steps so far cost, and what the plan costs up to them.
-#[derive(Default)]
-struct Spent {
-    earlier: u64,
-    plan: u64,
-}
-
-impl Spent {
-    /// Adds a step and says what it adds.
-    fn step(&mut self, room: &Room, step: &[Move]) -> String {
-        let memory: u64 = step.iter().map(|m| room.vms[m.vm].memory).sum();
-        let cost = memory + self.earlier * step.len() as u64;
-        self.plan += cost;
-        self.earlier += step_cost(room, step);
-        format!("Cost of these moves {cost}, of the plan so far {}.", self.plan)
-    }
+/// Whether a move goes to a node that is not its VM's target.
+pub fn is_pivot(room: &Room, m: &Move) -> bool {
+    room.vms[m.vm].target != m.to
 }

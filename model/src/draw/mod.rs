@@ -1,77 +1,110 @@
 //! A plan as a page to look at or print: the start, the moment of each step at which all its
 //! moves run, and the end. The page is whole in itself and says numbers only.
 
+mod arrows;
+mod bar;
+mod blame;
 mod frame;
+mod label;
 mod look;
 mod node;
+mod picture;
 mod svg;
+mod words;
 
 use crate::form::constraint_line;
 use crate::reasons::reason;
 use crate::records::{cluster_bytes, plan_bytes, Room, Step};
-use crate::rules::{check, plan_cost, Verdict};
-use frame::{frames, Frame};
-use look::Look;
+use crate::rules::{check, Verdict};
+use crate::text::verdict_text;
+use frame::{frames, is_pivot, Frame};
+use look::{Scale, NARROW, TALL};
+use words::many;
 
 const STYLE: &str = include_str!("page.css");
 const LEGEND: &str = include_str!("legend.svg");
 
-/// On paper a small cluster's frames stand two abreast, a large one's have a sheet each.
-const PRINT_WIDE: &str = "@page { size: A4 portrait; margin: 10mm; }\n\
-                          @media print { body { zoom: 0.7; } }\n";
-const PRINT_SMALL: &str = "@page { size: A4 landscape; margin: 10mm; }\n";
+/// On paper a small cluster's frames stand two abreast; a large one's are as wide as the sheet.
+const SMALL: &str = "@page { size: A4 portrait; margin: 10mm; }\n\
+                     @media print { body { zoom: 0.7; } }\n";
+const LARGE: &str = "body { max-width: 1400px; }\n\
+                     @page { size: A4 landscape; margin: 10mm; }\n\
+                     @media print { body { zoom: 0.74; } }\n";
 
-/// How the labels of small blocks are read.
-const SHORT_LABELS: &str = "<p>5 \u{2192} 9: VM 5 runs to node 9. 5 \u{2190} 2: it runs from \
-    node 2. Blocks too small for a number have none.</p>\n";
+/// How the frames are read.
+const LABELS: &str = "VM 5, target 9: VM 5 is to end on node 9. VM 5 \u{2192} 9: it runs to node \
+    9. VM 5 \u{2190} 2: it runs from node 2. Where it is narrow, VM is left out. A block too low \
+    for words is shown again below its node.";
+const BRIEF: &str = " A step's frame shows the nodes that the step touches; the others stay as \
+    they are.";
+const PIVOT: &str = " A pivot is a move to a node that is not its VM's target.";
+const MARKS: &str = " Broken red lines are around what refuses a step.";
 
 /// More constraints than this are only counted.
 const MOST_SHOWN: usize = 12;
 
+/// Whose verdict the page shows.
+#[derive(Clone, Copy, Debug, PartialEq, Eq)]
+pub enum Whose {
+    /// The model's own.
+    Model,
+    /// The proved checker's, which is the model's too.
+    Checker,
+}
+
 /// Draws a plan. The error is a sentence, if some step does not fit the cluster (fault 15).
-pub fn page(room: &Room, steps: &[Step]) -> Result<String, String> {
-    let frames = frames(room, steps)?;
-    let look = Look::of(room, &frames);
-    let figures: String = frames.iter().map(|frame| figure(room, &look, frame)).collect();
-    let headline = headline(room, steps);
-    let (print, short) = if look.small { (PRINT_SMALL, SHORT_LABELS) } else { (PRINT_WIDE, "") };
-    let about = about(room, steps, &frames);
+pub fn page(room: &Room, steps: &[Step], whose: Whose) -> Result<String, String> {
+    let verdict = check(&cluster_bytes(room), &plan_bytes(steps));
+    let frames = frames(room, steps, verdict)?;
+    let scale = Scale::of(room, &frames);
+    let figures: String = frames.iter().map(|frame| figure(room, &scale, frame)).collect();
+    let headline = headline(steps, verdict);
+    let print = if room.nodes.len() <= NARROW { SMALL } else { LARGE };
+    let about = about(room, &frames) + &verdict_words(verdict, whose) + &constraints(room);
+    let reading = reading(room, steps, &frames);
     Ok(format!(
         "<!DOCTYPE html>\n<html lang=\"en\">\n<head>\n<meta charset=\"utf-8\"/>\n\
          <title>{headline}</title>\n<style>\n{STYLE}{print}</style>\n</head>\n<body>\n\
-         <h1>{headline}</h1>\n{about}{LEGEND}{short}<main>\n{figures}</main>\n</body>\n</html>\n"
+         <h1>{headline}</h1>\n{about}{LEGEND}{reading}<main>\n{figures}</main>\n</body>\n</html>\n"
     ))
 }
 
-/// A count with its noun.
-fn many(count: usize, noun: &str) -> String {
-    let end = if count == 1 { "" } else { "s" };
-    format!("{count} {noun}{end}")
-}
-
-fn headline(room: &Room, steps: &[Step]) -> String {
+fn headline(steps: &[Step], verdict: Verdict) -> String {
     let moves = steps.iter().map(Vec::len).sum();
-    let cost = plan_cost(room, steps);
-    format!("{}, {}, cost {cost}", many(steps.len(), "step"), many(moves, "move"))
+    let end = match verdict {
+        Verdict::Accepted { cost } => format!("cost {cost}"),
+        Verdict::Refused { .. } => "refused".into(),
+    };
+    format!("{}, {}, {end}", many(steps.len(), "step"), many(moves, "move"))
 }
 
-/// What the plan is for, where it ends and what the checker says of it.
-fn about(room: &Room, steps: &[Step], frames: &[Frame]) -> String {
+/// What the plan is for, and where it ends if it gets there.
+fn about(room: &Room, frames: &[Frame]) -> String {
     let cluster = format!("{}, {}", many(room.nodes.len(), "node"), many(room.vms.len(), "VM"));
-    let end = match frames.last().map_or(0, |end| end.astray(room)) {
-        0 => "The end is the target.".into(),
-        1 => "The end is not the target: 1 VM is elsewhere.".into(),
-        n => format!("The end is not the target: {n} VMs are elsewhere."),
+    let end = match frames.last().filter(|end| end.still).map(|end| end.astray(room)) {
+        None => "",
+        Some(0) => " The end is the target.",
+        Some(1) => " The end is not the target: 1 VM is elsewhere.",
+        Some(n) => &format!(" The end is not the target: {n} VMs are elsewhere."),
     };
-    let verdict = match check(&cluster_bytes(room), &plan_bytes(steps)) {
-        Verdict::Accepted { .. } => "The checker accepts this plan.".into(),
-        Verdict::Refused { number, step } => {
-            let why = reason(number);
-            let at = if step > 0 { format!(" at step {step}") } else { String::new() };
-            format!("The checker refuses this plan{at}, with number {number}: {why}.")
+    format!("<p>{cluster}.{end}</p>\n")
+}
+
+/// The line of the verdict, whose it is, and what a refusal means.
+fn verdict_words(verdict: Verdict, whose: Whose) -> String {
+    let whose = match whose {
+        Whose::Model => "Verdict of the Rust model, not of the proved checker",
+        Whose::Checker => "Verdict of the proved checker",
+    };
+    let line = verdict_text(verdict);
+    let why = match verdict {
+        Verdict::Accepted { .. } => "",
+        Verdict::Refused { number: number @ ..15, .. } => {
+            &format!(" {} The steps are drawn as they stand, unchecked.", reason(number))
         }
+        Verdict::Refused { number, .. } => &format!(" {}", reason(number)),
     };
-    format!("<p>{cluster}. {end} {verdict}</p>\n{}", constraints(room))
+    format!("<p class=\"verdict\">{whose}: <b>{}</b>.{why}</p>\n", line.trim_end())
 }
 
 fn constraints(room: &Room) -> String {
@@ -87,13 +120,29 @@ fn constraints(room: &Room) -> String {
     format!("<ul>\n{items}{more}</ul>\n")
 }
 
-fn figure(room: &Room, look: &Look, frame: &Frame) -> String {
+/// What is to be said of how to read these frames.
+fn reading(room: &Room, steps: &[Step], frames: &[Frame]) -> String {
+    let drawn = frames.iter().filter(|frame| !frame.still).count();
+    let pivots = steps.iter().take(drawn).flatten().any(|m| is_pivot(room, m));
+    let sentences = [
+        (true, LABELS),
+        (frames.iter().any(|frame| frame.brief), BRIEF),
+        (pivots, PIVOT),
+        (frames.iter().any(|frame| !frame.blame.notes().is_empty()), MARKS),
+    ];
+    let said: String =
+        sentences.iter().filter(|(holds, _)| *holds).map(|(_, words)| *words).collect();
+    format!("<p class=\"reading\">{said}</p>\n")
+}
+
+fn figure(room: &Room, scale: &Scale, frame: &Frame) -> String {
     let kind = if frame.refused { "refused" } else { "fine" };
+    let tall = if frame.shown.len() > TALL { " tall" } else { "" };
     let Frame { title, notes, .. } = frame;
     let notes: String = notes.iter().map(|note| format!("<p>{note}</p>\n")).collect();
-    let drawing = node::drawing(room, look, frame);
+    let drawing = node::drawing(room, scale, frame);
     format!(
-        "<figure class=\"{kind}\">\n<figcaption><h2>{title}</h2>\n{notes}</figcaption>\n\
+        "<figure class=\"{kind}{tall}\">\n<figcaption><h2>{title}</h2>\n{notes}</figcaption>\n\
          {drawing}</figure>\n"
     )
 }

@@ -34,9 +34,24 @@ pub fn line(class: &str, from: f64, to: f64, y: f64) -> String {
     )
 }
 
-/// About how wide words come out.
+/// The height of a line of words.
+pub fn line_height(font: f64) -> f64 {
+    1.25 * font
+}
+
+/// How wide words come out at most, in the fonts that the page asks for.
 pub fn width(words: &str, font: f64) -> f64 {
-    words.chars().count() as f64 * font * 0.52
+    font * words.chars().map(glyph).sum::<f64>()
+}
+
+fn glyph(char: char) -> f64 {
+    match char {
+        ' ' | ',' | '.' | ':' | '\u{b7}' | 'i' | 'l' => 0.32,
+        'f' | 'r' | 't' => 0.42,
+        'M' | 'm' | '\u{2190}' | '\u{2192}' => 0.87,
+        'A'..='Z' => 0.7,
+        _ => 0.64,
+    }
 }
 
 /// A text around a point, pressed together if it is wider than it may be.

@@ -24,7 +24,7 @@ use Rattle.rules.specs.Verdict.{home}
 use Rattle.rules.specs.Promises.{afterAll}
 use Rattle.rules.specs.declared.faults.TargetFault.{TargetFault}
 use Rattle.rules.specs.declared.faults.TargetCheck.{TargetCheck}
-use Rattle.planner.specs.Answer.{stepsFor, madeOf, outcome, answerCluster, answerTarget, answerOf, bufferOf}
+use Rattle.planner.specs.Answer.{stepsFor, madeOf, outcome, answerCluster, answerTarget, answerOf, bufferOf, leastBuffer}
 use Rattle.planner.specs.Promises.{Answers}
 use Rattle.planner.specs.Inner.{Trailed}
 use Rattle.planner.specs.declared.steps.Trail.{Trail}
@@ -36,8 +36,8 @@ use Rattle.planner.specs.declared.answer.Answer.the-variants.{Plan, Bloc
 
 -- ---- the record that is written
 
-module _ (s before mid : List ℕ) (trail : Trail) (t : Trailed s before mid trail) (b : 2051 ≤ length before) where
-  plan-low : length (planBytes (stepsFor (roomOf s))) ≤ 2051
+module _ (s before mid : List ℕ) (trail : Trail) (t : Trailed s before mid trail) (b : leastBuffer ≤ length before) where
+  plan-low : length (planBytes (stepsFor (roomOf s))) ≤ leastBuffer
   plan-low = let a = plan-length (stepsFor (roomOf s)) in let m = t .moves-most in let n = t .steps-most in omega arith
 
   size-is : length (planBytes (stepsFor (roomOf s))) ≡ 7 + length (stepsBytes (stepsFor (roomOf s)))
@@ -113,21 +113,21 @@ refused-same s before answer f e = rw e (record { is = refl; buffer = refl })
 
 module _ (s before : List ℕ) (rest : Answer) (found : TargetCheck) (e : found ≡ targetCheck (roomOf s)) where
   pub answer-target : (f : TargetFault) → found ≡ TargetCheck.Bad f →
-      Answers s (answerTarget (targetCheck (roomOf s)) (pick (ltb (length before) 2051) (Refused Buffer) rest)) before before (Refused (Target f))
+      Answers s (answerTarget (targetCheck (roomOf s)) (pick (ltb (length before) leastBuffer) (Refused Buffer) rest)) before before (Refused (Target f))
   unfolding answerTarget
-  answer-target f g = refused-same s before (answerTarget (targetCheck (roomOf s)) (pick (ltb (length before) 2051) (Refused Buffer) rest)) (Target f) (rw (sym e ∙ g))
+  answer-target f g = refused-same s before (answerTarget (targetCheck (roomOf s)) (pick (ltb (length before) leastBuffer) (Refused Buffer) rest)) (Target f) (rw (sym e ∙ g))
 
   module _ (g : found ≡ TargetCheck.Good) where
-    pub answer-buffer : length before < 2051 → Answers s (answerTarget (targetCheck (roomOf s)) (pick (ltb (length before) 2051) (Refused Buffer) rest)) before before (Refused Buffer)
+    pub answer-buffer : length before < leastBuffer → Answers s (answerTarget (targetCheck (roomOf s)) (pick (ltb (length before) leastBuffer) (Refused Buffer) rest)) before before (Refused Buffer)
     unfolding answerTarget
     answer-buffer h =
-        refused-same s before (answerTarget (targetCheck (roomOf s)) (pick (ltb (length before) 2051) (Refused Buffer) rest)) Buffer (rw (sym e ∙ g, lt-ltb (length before) 2051 h))
+        refused-same s before (answerTarget (targetCheck (roomOf s)) (pick (ltb (length before) leastBuffer) (Refused Buffer) rest)) Buffer (rw (sym e ∙ g, lt-ltb (length before) leastBuffer h))
 
-    pub answer-taken : (after : List ℕ) (r : Answer) → Answers s rest before after r → 2051 ≤ length before →
-        Answers s (answerTarget (targetCheck (roomOf s)) (pick (ltb (length before) 2051) (Refused Buffer) rest)) before after r
+    pub answer-taken : (after : List ℕ) (r : Answer) → Answers s rest before after r → leastBuffer ≤ length before →
+        Answers s (answerTarget (targetCheck (roomOf s)) (pick (ltb (length before) leastBuffer) (Refused Buffer) rest)) before after r
     unfolding answerTarget
     answer-taken after r a h =
-        answers-same s before after rest (answerTarget (targetCheck (roomOf s)) (pick (ltb (length before) 2051) (Refused Buffer) rest)) r (rw (sym e ∙ g, le-ltb (length before) 2051 h)) a
+        answers-same s before after rest (answerTarget (targetCheck (roomOf s)) (pick (ltb (length before) leastBuffer) (Refused Buffer) rest)) r (rw (sym e ∙ g, le-ltb (length before) leastBuffer h)) a
 
 module _ (s before : List ℕ) (found : ClusterCheck) (e : found ≡ clusterCheck s) where
   pub answer-cluster : (f : ClusterFault) → found ≡ ClusterCheck.Damaged f → Answers s (answerOf s (length before)) before before (Refused (Cluster f))
@@ -138,9 +138,9 @@ module _ (s before : List ℕ) (found : ClusterCheck) (e : found ≡ clusterChec
   cluster-whole g = sym e ∙ g
 
   pub answer-whole : (after : List ℕ) (r : Answer) →
-      Answers s (answerTarget (targetCheck (roomOf s)) (pick (ltb (length before) 2051) (Refused Buffer) (outcome (roomOf s) (stepsFor (roomOf s))))) before after r →
+      Answers s (answerTarget (targetCheck (roomOf s)) (pick (ltb (length before) leastBuffer) (Refused Buffer) (outcome (roomOf s) (stepsFor (roomOf s))))) before after r →
       found ≡ ClusterCheck.Whole → Answers s (answerOf s (length before)) before after r
   unfolding answerOf answerCluster
   answer-whole after r a g =
-      answers-same s before after (answerTarget (targetCheck (roomOf s)) (pick (ltb (length before) 2051) (Refused Buffer) (outcome (roomOf s) (stepsFor (roomOf s)))))
+      answers-same s before after (answerTarget (targetCheck (roomOf s)) (pick (ltb (length before) leastBuffer) (Refused Buffer) (outcome (roomOf s) (stepsFor (roomOf s)))))
       (answerOf s (length before)) r (rw (sym e ∙ g)) a

@@ -33,7 +33,7 @@ use Rattle.rules.proofs.Laws.Sound.{sound-named}
 use Rattle.rules.proofs.Laws.Turns.{after-held, after-placed}
 use Rattle.rules.proofs.Laws.Verdicts.{current-length}
 use Rattle.planner.specs.Picks.{moving, directStep, pivotStep, orElse, nextStep, Picks, picked}
-use Rattle.planner.specs.Answer.{stepsFor}
+use Rattle.planner.specs.Answer.{stepsFor, leastBuffer}
 use Rattle.planner.specs.Inner.{moveIn, movesIn, Trailed}
 use Rattle.planner.proofs.Laws.Budget.{next-sound, budget, budget-511, turn-budget, picks-unique, picks-steps, picks-shaped, Leads, leads-start, leads-turn, leads-end}
 use Rattle.planner.proofs.Laws.Direct.{direct-sound}
@@ -137,7 +137,7 @@ pub record Making (s before out places : List ℕ) (end steps moves : ℕ) : Typ
   pub fewer : steps ≤ moves
   pub spare : moves + budget (roomOf s) (held s places) ≤ 511
 
-pub making-start : (s before places : List ℕ) → places ≡ arrayOf (currentOf (roomOf s)) → length places ≡ 256 → clusterCheck s ≡ Whole → 2051 ≤ length before →
+pub making-start : (s before places : List ℕ) → places ≡ arrayOf (currentOf (roomOf s)) → length places ≡ 256 → clusterCheck s ≡ Whole → leastBuffer ≤ length before →
     Making s before before places 7 0 0
 unfolding stepsBytes moveTotal sumOf afterAll
 making-start s before places a z w b =
@@ -193,7 +193,7 @@ module _ (s before out places dests : List ℕ) (end steps moves vms : ℕ) (ok 
       go [] f = refl
       go (move ∷ rest) f = absurd (false≢true (sym f ∙ lt-ltb 0 (length (move ∷ rest)) (omega arith)))
 
-  module _ (t : ok ≡ true) (b : 2051 ≤ length before) where
+  module _ (t : ok ≡ true) (b : leastBuffer ≤ length before) where
     some : 0 < length (nextStep (roomOf s) (held s places))
     some = ltb-true 0 (length (nextStep (roomOf s) (held s places))) (ap (λ (x : Step). ltb 0 (length x)) (sym step-is) ∙ sym o ∙ t)
 
@@ -311,7 +311,7 @@ module _ (s before out places : List ℕ) (end steps moves : ℕ) (inv : Making 
         moves-most = rw (← done-is) (let a = inv .spare in let b = inv .summed in omega arith);
       }
 
-pub making-length : (s before out places : List ℕ) (end steps moves : ℕ) → Making s before out places end steps moves → 2051 ≤ length before → length out ≡ length before
+pub making-length : (s before out places : List ℕ) (end steps moves : ℕ) → Making s before out places end steps moves → leastBuffer ≤ length before → length out ≡ length before
 making-length s before out places end steps moves inv b =
     let a = steps-bytes-length (inv .done) in let c = inv .counted in let d = inv .summed in let e = inv .fewer in let f = inv .spare in
     ap length (inv .buffer) ∙ written-length before 7 (stepsBytes (inv .done)) (omega arith)

@@ -19,7 +19,7 @@ use Rattle.rules.specs.Promises.{afterAll, EveryRun}
 use Rattle.rules.specs.declared.faults.Verdict.{Verdict}
 use Rattle.rules.proofs.Laws.Verdicts.{exact-holds, only-holds}
 use Rattle.planner.specs.Picks.{moving, away, awayCount, canGo, joined, joinedAll, directStep, otherGoes, useful, orElse, pivotAmong, pivotFirst, pivotStep, nextStep, onward, pickedWithin, picked}
-use Rattle.planner.specs.Answer.{stepsFor, madeOf, outcome, answerCluster, answerTarget, answerOf, bufferOf, packedAnswer}
+use Rattle.planner.specs.Answer.{stepsFor, madeOf, outcome, answerCluster, answerTarget, answerOf, bufferOf, packedAnswer, leastBuffer}
 use Rattle.planner.specs.Promises.{Stuck}
 use Rattle.planner.proofs.Laws.Promised.{rest-stuck}
 
@@ -66,12 +66,12 @@ planOne = 1 ∷ 0 ∷ 0 ∷ 0 ∷ 11 ∷ 0 ∷ 1 ∷ 0 ∷ 1 ∷ 0 ∷ 0 ∷ []
 
 -- ---- what is said of a case
 
--- the numbers that the two calls return (promise `is` of each), `build` lent a buffer of 2,051 bytes
+-- the numbers that the two calls return (promise `is` of each), `build` lent a buffer of the least size
 abbrev pub checkReturns : List ℕ → List ℕ → ℕ
 checkReturns cluster plan = packed (verdictOf cluster plan)
 
 abbrev pub buildReturns : List ℕ → ℕ
-buildReturns cluster = packedAnswer (answerOf cluster 2051)
+buildReturns cluster = packedAnswer (answerOf cluster leastBuffer)
 
 -- the checker accepts, at a cost: every whole run obeys the rules and ends on the target
 pub record AcceptedAt (cluster plan : List ℕ) (c : ℕ) : Type 0 where
@@ -112,7 +112,7 @@ pub record OnPaper : Type 0 where
   pub a-planned : PlansAs (clusterA 40 0 4 4 4 []) planA 3 3 16
   -- a planner that leaves the buffer as it was, here one that starts with 0, is another one
   pub a-touched : (before : List ℕ) → byteAt before 0 ≡ 0 →
-      bufferOf (answerOf (clusterA 40 0 4 4 4 []) 2051) (planBytes (stepsFor (roomOf (clusterA 40 0 4 4 4 [])))) before ≡ before → ⊥
+      bufferOf (answerOf (clusterA 40 0 4 4 4 []) leastBuffer) (planBytes (stepsFor (roomOf (clusterA 40 0 4 4 4 [])))) before ≡ before → ⊥
   pub a-nothing : SaysRefused (checkReturns (clusterA 40 0 4 4 4 []) planEmpty) 19 0
   pub a-both : SaysRefused (checkReturns (clusterA 40 0 4 4 4 []) planBoth) 17 1
   pub a-order : Order (firstMoment (roomOf (clusterA 40 0 4 4 4 [])) (currentOf (roomOf (clusterA 40 0 4 4 4 []))) (moving 0 1 ∷ moving 1 0 ∷ [])) (cell 0 0 (ended 1) ∷ cell 1 1 (ended 0) ∷ [])

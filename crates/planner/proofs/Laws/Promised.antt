@@ -33,7 +33,7 @@ use Rattle.rules.proofs.Laws.Runs.{sound-all-named, run-ends, run-obeys, sound-
 use Rattle.rules.proofs.Laws.Spreads.{stays-apart}
 use Rattle.rules.proofs.Laws.Verdicts.{current-length, off-some, off-home}
 use Rattle.planner.specs.Picks.{away, directStep, pivotStep, orElse, nextStep, Picks}
-use Rattle.planner.specs.Answer.{stepsFor, madeOf, outcome, answerCluster, answerTarget, answerOf, bufferOf, frontOf, packedAnswer}
+use Rattle.planner.specs.Answer.{stepsFor, madeOf, outcome, answerCluster, answerTarget, answerOf, bufferOf, frontOf, packedAnswer, leastBuffer}
 use Rattle.planner.specs.Promises.{Answers, toldMade, TellsAnswer, Stuck, Written, Planned, Halted, Taken, Built}
 use Rattle.planner.specs.Inner.{Packs}
 use Rattle.planner.specs.declared.answer.Made.{Made}
@@ -108,18 +108,18 @@ taken-of : (cluster before : List ℕ) → refuses (answerOf cluster (length bef
 unfolding answerOf answerCluster answerTarget
 taken-of cluster before e = on-cluster (clusterCheck cluster) refl e
   where
-    on-size : (b : Bool) → ltb (length before) 2051 ≡ b → clusterCheck cluster ≡ ClusterCheck.Whole → targetCheck (roomOf cluster) ≡ TargetCheck.Good →
+    on-size : (b : Bool) → ltb (length before) leastBuffer ≡ b → clusterCheck cluster ≡ ClusterCheck.Whole → targetCheck (roomOf cluster) ≡ TargetCheck.Good →
         refuses (pick b (Refused BuildFault.Buffer) (outcome (roomOf cluster) (stepsFor (roomOf cluster)))) ≡ false → Taken cluster before
     on-size true q c t f = absurd (false≢true (sym f))
-    on-size false q c t f = record { cluster-whole = c; target-good = t; buffer-long = ltb-false (length before) 2051 q }
+    on-size false q c t f = record { cluster-whole = c; target-good = t; buffer-long = ltb-false (length before) leastBuffer q }
 
     on-target : (t : TargetCheck) → targetCheck (roomOf cluster) ≡ t → clusterCheck cluster ≡ ClusterCheck.Whole →
-        refuses (answerTarget t (pick (ltb (length before) 2051) (Refused BuildFault.Buffer) (outcome (roomOf cluster) (stepsFor (roomOf cluster))))) ≡ false → Taken cluster before
-    on-target TargetCheck.Good q c f = on-size (ltb (length before) 2051) refl c q f
+        refuses (answerTarget t (pick (ltb (length before) leastBuffer) (Refused BuildFault.Buffer) (outcome (roomOf cluster) (stepsFor (roomOf cluster))))) ≡ false → Taken cluster before
+    on-target TargetCheck.Good q c f = on-size (ltb (length before) leastBuffer) refl c q f
     on-target (TargetCheck.Bad fault) q c f = absurd (false≢true (sym f))
 
     on-cluster : (c : ClusterCheck) → clusterCheck cluster ≡ c →
-        refuses (answerCluster c (answerTarget (targetCheck (roomOf cluster)) (pick (ltb (length before) 2051) (Refused BuildFault.Buffer) (outcome (roomOf cluster) (stepsFor (roomOf cluster)))))) ≡ false →
+        refuses (answerCluster c (answerTarget (targetCheck (roomOf cluster)) (pick (ltb (length before) leastBuffer) (Refused BuildFault.Buffer) (outcome (roomOf cluster) (stepsFor (roomOf cluster)))))) ≡ false →
         Taken cluster before
     on-cluster ClusterCheck.Whole q f = on-target (targetCheck (roomOf cluster)) refl q f
     on-cluster (ClusterCheck.Damaged fault) q f = absurd (false≢true (sym f))
@@ -129,7 +129,7 @@ taken-of cluster before e = on-cluster (clusterCheck cluster) refl e
 module _ (cluster before : List ℕ) (t : Taken cluster before) where
   pub taken-answer : answerOf cluster (length before) ≡ outcome (roomOf cluster) (stepsFor (roomOf cluster))
   unfolding answerOf answerCluster answerTarget
-  taken-answer = rw (t .cluster-whole, t .target-good, le-ltb (length before) 2051 (t .buffer-long))
+  taken-answer = rw (t .cluster-whole, t .target-good, le-ltb (length before) leastBuffer (t .buffer-long))
 
   few : length (roomOf cluster .vms) ≤ 256
   few = let a = vms-count cluster in let b = vms-most cluster (t .cluster-whole) in omega arith

@@ -1,0 +1,114 @@
+// The files of the programs: read to their end or not at all, written whole or not; what cannot be is said on standard error, and why.
+use libc::STDERR_FILENO;
+use libc::STDIN_FILENO;
+ghost use mathlib.Core.Path.{_≡_};
+ghost use lib.ListN.{take};
+
+pub enum Size {
+    Bytes(usize),
+    Unread,
+}
+
+// One read: of what goes at a place of the buffer, or of what goes past it and is not kept.
+fn read_some(fd: i32, buffer: &mut [u8], at: usize) -> isize {
+    if at < buffer.len() {
+        return libc::read(fd, &mut buffer[at..]);
+    }
+    let mut past = io::large_buffer();
+    libc::read(fd, &mut past)
+}
+
+// Reads to the end, the first bytes into the buffer; or until there are enough, or more than any record can state.
+fn read_all(fd: i32, buffer: &mut [u8; 65536], enough: usize) -> Size {
+    let mut size: usize = 0;
+    while size < 4294967296 {
+        if enough <= size {
+            return Size::Bytes(size);
+        }
+        let got = read_some(fd, buffer, size);
+        if got < 0 {
+            return Size::Unread;
+        }
+        let n = io::count(got, buffer);
+        if n == 0 {
+            return Size::Bytes(size);
+        }
+        size += n;
+    }
+    Size::Bytes(size)
+}
+
+// Says that a program cannot do something to a file, and why.
+fn cannot(program: &[u8], action: &[u8], file: &[u8]) {
+    io::write_all(STDERR_FILENO, program);
+    io::write_all(STDERR_FILENO, action);
+    os::fail(file);
+}
+
+// Reads the file at a path.
+fn read_path(program: &[u8], path: &[u8], buffer: &mut [u8; 65536], enough: usize) -> Size {
+    let fd = os::open_read(path);
+    if fd >= 0 {
+        let found = read_all(fd, buffer, enough);
+        if let Size::Bytes(n) = found {
+            libc::close(fd);
+            return Size::Bytes(n);
+        }
+    }
+    cannot(program, b": cannot read ", path);
+    Size::Unread
+}
+
+// Reads the file that an argument names, its first bytes into the buffer, to its end or until there are enough.
+pub fn load(program: &[u8], argument: usize, buffer: &mut [u8; 65536], enough: usize) -> Size {
+    let mut path = io::buffer();
+    let n = os::arg(argument, &mut path);
+    read_path(program, &path[..n], buffer, enough)
+}
+
+// The same of standard input.
+pub fn load_input(program: &[u8], buffer: &mut [u8; 65536], enough: usize) -> Size {
+    let found = read_all(STDIN_FILENO, buffer, enough);
+    if let Size::Bytes(n) = found {
+        return Size::Bytes(n);
+    }
+    cannot(program, b": cannot read ", b"standard input");
+    Size::Unread
+}
+
+// So many bytes of a buffer, or all that it has.
+pub fn front(buffer: &[u8], n: usize) -> &[u8]
+    ensures { λ r. ⌜ now r ≡ take n (now (buffer .entry)) ⌝ }
+{
+    if n < buffer.len() {
+        &buffer[0..n]
+    } else {
+        buffer
+    }
+}
+
+// Writes bytes to an open file and closes it; whether all went well.
+fn write_closed(fd: i32, bytes: &[u8]) -> bool {
+    let whole = io::write_all(fd, bytes);
+    let closed = libc::close(fd);
+    whole & (closed == 0)
+}
+
+// Writes bytes to the file at a path.
+fn save_path(program: &[u8], path: &[u8], bytes: &[u8]) -> bool {
+    let fd = os::open_overwrite(path);
+    if fd >= 0 {
+        if write_closed(fd, bytes) {
+            return true;
+        }
+    }
+    cannot(program, b": cannot write ", path);
+    false
+}
+
+// Writes bytes to the file that an argument names; whether all went well.
+pub fn save(program: &[u8], argument: usize, bytes: &[u8]) -> bool {
+    let mut path = io::buffer();
+    let n = os::arg(argument, &mut path);
+    save_path(program, &path[..n], bytes)
+}

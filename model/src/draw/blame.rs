@@ -1,0 +1,130 @@
+//! What refuses a step, for the faults 16 to 18: what to mark in its frame, and why.
+
+use crate::form::{constraint_line, number_list};
+use crate::records::{Move, Room};
+use crate::rules::{allows, mates, within, Placement, Sum};
+
+/// More reasons than this are only counted; all are marked.
+const MOST_TOLD: usize = 3;
+
+/// More begins than this are listed in short.
+const MOST_BEGINS: usize = 6;
+
+/// A node that refuses, the VMs to mark on it, and the reason in words.
+#[derive(Clone, Debug)]
+struct Culprit {
+    node: usize,
+    vms: Vec<usize>,
+    why: String,
+}
+
+/// All that refuses a step, and the word that stands at its nodes.
+#[derive(Clone, Debug, Default)]
+pub struct Blame {
+    pub word: &'static str,
+    culprits: Vec<Culprit>,
+}
+
+impl Blame {
+    pub fn of(room: &Room, here: &Placement, step: &[Move], number: u8) -> Blame {
+        let (word, culprits) = match number {
+            16 => ("forbidden", step.iter().filter_map(|&m| forbidden(room, m)).collect()),
+            17 => ("no space", no_space(room, here, step)),
+            18 => ("mates meet", step.iter().flat_map(|&m| meets(room, here, step, m)).collect()),
+            _ => ("", vec![]),
+        };
+        Blame { word, culprits }
+    }
+
+    pub fn has_node(&self, node: usize) -> bool {
+        self.culprits.iter().any(|culprit| culprit.node == node)
+    }
+
+    pub fn has_vm(&self, node: usize, vm: usize) -> bool {
+        self.culprits.iter().any(|culprit| culprit.node == node && culprit.vms.contains(&vm))
+    }
+
+    pub fn notes(&self) -> Vec<String> {
+        let told = self.culprits.iter().take(MOST_TOLD).map(|culprit| culprit.why.clone());
+        let more = self.culprits.len().saturating_sub(MOST_TOLD);
+        told.chain((more > 0).then(|| format!("And {more} more like this."))).collect()
+    }
+}
+
+/// Fault 16: the ban or fence that keeps a move from its destination.
+fn forbidden(room: &Room, Move { vm, to }: Move) -> Option<Culprit> {
+    let rule = room.constraints.iter().find(|constraint| !allows(constraint, vm, to))?;
+    let why = format!("VM {vm} may not go to node {to}: {}.", constraint_line(rule));
+    Some(Culprit { node: to, vms: vec![vm], why })
+}
+
+/// Fault 17: each node that some order fills past its capacity.
+fn no_space(room: &Room, here: &Placement, step: &[Move]) -> Vec<Culprit> {
+    (0..room.nodes.len()).filter_map(|node| misfit(room, here, step, node)).collect()
+}
+
+/// The arrivals at a node begin by number until one does not fit; nobody ends.
+fn misfit(room: &Room, here: &Placement, step: &[Move], node: usize) -> Option<Culprit> {
+    let mut sum = here.sums[node];
+    let mut begun = Vec::new();
+    for m in step.iter().filter(|m| m.to == node) {
+        sum = sum.plus(&room.vms[m.vm]);
+        begun.push(m.vm);
+        if !within(room, node, sum) {
+            let leavers: Vec<usize> =
+                step.iter().map(|m| m.vm).filter(|&vm| here.place[vm] == node).collect();
+            let what = format!("{}{}", excess(room, node, sum), still_there(&leavers));
+            return Some(Culprit { node, vms: vec![], why: order(&begun, node, &what) });
+        }
+    }
+    None
+}
+
+/// The sum that passes its capacity.
+fn excess(room: &Room, node: usize, sum: Sum) -> String {
+    let row = &room.nodes[node];
+    if sum.memory > row.memory {
+        format!("memory {} of {}", sum.memory, row.memory)
+    } else {
+        format!("CPU {} of {}", sum.cpu, row.cpu)
+    }
+}
+
+/// Fault 18: the mates that a move may meet: those that start on its destination, and those that
+/// arrive there too, each pair once.
+fn meets(room: &Room, here: &Placement, step: &[Move], Move { vm, to }: Move) -> Vec<Culprit> {
+    let meet = |mate: usize| {
+        let moves = step.iter().find(|m| m.vm == mate);
+        let arrives = moves.is_some_and(|m| m.to == to) && mate < vm;
+        let begun = match here.place[mate] == to {
+            true => vec![vm],
+            false if arrives => vec![mate, vm],
+            false => return None,
+        };
+        let leavers: Vec<usize> =
+            moves.iter().map(|m| m.vm).filter(|&mate| here.place[mate] == to).collect();
+        let what = format!("VMs {vm} and {mate}, spread mates{}", still_there(&leavers));
+        Some(Culprit { node: to, vms: vec![vm, mate], why: order(&begun, to, &what) })
+    };
+    mates(room, vm).into_iter().filter_map(meet).collect()
+}
+
+/// An order up to the begin that fails, and what its node would then have.
+fn order(begun: &[usize], node: usize, what: &str) -> String {
+    let begins = if begun.len() <= MOST_BEGINS {
+        let begins: Vec<String> = begun.iter().map(|vm| format!("begin VM {vm}")).collect();
+        begins.join(", ")
+    } else {
+        format!("begin VMs {} one by one", number_list(begun, ""))
+    };
+    format!("An order that fails: {begins}: node {node} would have {what}.")
+}
+
+/// A remark on VMs that leave a node in the same step.
+fn still_there(leavers: &[usize]) -> String {
+    match leavers {
+        [] => String::new(),
+        [vm] => format!(" (VM {vm} counts there until its move ends)"),
+        vms => format!(" (VMs {} count there until their moves end)", number_list(vms, "")),
+    }
+}
