@@ -8,19 +8,15 @@ use Rattle.planner.proofs.build.Lts as lts
 use Rattle.planner.proofs.answer.pack.Reads as pack-reads
 use Rattle.planner.proofs.plan.answer_to.Reads as answer-to-reads
 
--- src/lib.rt:24:18
 answer-to-requires : tie.Need-answer-to-requires
 answer-to-requires c κs = search needs
 
--- src/lib.rt:24:5
 pack-requires : tie.Need-pack-requires
 pack-requires c κs = answer-packs _ _ _ _ (c .before .before .answer-to .ensures) (λ i. omega (arith, c .before .before .before .before .before .shared-slice-known .given i))
 
--- src/lib.rt:20:1
 same-length : tie.Need-same-length
 same-length c = search needs
 
--- src/lib.rt:20:1
 returns : tie.Need-returns
 returns c = built _ _ _ _ _ (c .before .before .before .answer-to .ensures) (c .pack .ensures) (λ i. omega (arith, c .before .before .before .before .before .before .shared-slice-known .given i))
 

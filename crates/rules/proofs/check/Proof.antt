@@ -8,15 +8,12 @@ use Rattle.rules.proofs.check.Lts as lts
 use Rattle.rules.proofs.verdict.pack.Reads as pack-reads
 use Rattle.rules.proofs.verdict.verdict_on.Reads as verdict-on-reads
 
--- src/lib.rt:45:19
 verdict-on-requires : tie.Need-verdict-on-requires
 verdict-on-requires c κs = search needs
 
--- src/lib.rt:45:5
 pack-requires : tie.Need-pack-requires
 pack-requires c κs = search (needs, verdict-packs)
 
--- src/lib.rt:41:1
 returns : tie.Need-returns
 returns c = checked-packed _ _ _ _ (c .before .verdict-on .ensures) (c .pack .ensures) (λ i. omega (arith, c .before .before .before .shared-slice-known .given i))
 

@@ -6,19 +6,15 @@ use Rattle.verdict.proofs.stand_in.Reads as reads
 use Rattle.verdict.proofs.stand_in.Lts as lts
 use Rattle.records.proofs.stated_length.Reads as stated-length-reads
 
--- src/main.rt:39:19
 element-copy-out-version : tie.Need-element-copy-out-version
 element-copy-out-version c = search needs
 
--- src/main.rt:40:9
 stated-length-requires : tie.Need-stated-length-requires
 stated-length-requires c κs = search needs
 
--- src/main.rt:35:1
 returns : tie.Need-returns
 returns c = search (needs, alike-told)
 
--- src/main.rt:35:1
 returns-2 : tie.Need-returns-2
 returns-2 c = search (needs, alike-untold)
 

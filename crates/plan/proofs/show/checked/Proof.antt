@@ -9,23 +9,18 @@ use Rattle.plan.proofs.show.steps.Reads as steps-reads
 use Rattle.records.proofs.cluster_check.Reads as cluster-check-reads
 use Rattle.records.proofs.plan_check.Reads as plan-check-reads
 
--- src/show.rt:74:9
 cluster-check-requires : tie.Need-cluster-check-requires
 cluster-check-requires c κs = search needs
 
--- src/show.rt:75:9
 plan-check-requires : tie.Need-plan-check-requires
 plan-check-requires c κs = search needs
 
--- src/show.rt:77:9
 enum-told : tie.Need-enum-told
 enum-told c = search needs
 
--- src/show.rt:78:13
 enum-told-2 : tie.Need-enum-told-2
 enum-told-2 c = search needs
 
--- src/show.rt:78:13
 steps-requires : tie.Need-steps-requires
 steps-requires c κs = search (needs, room-is-whole, plan-is-whole)
 
@@ -35,15 +30,12 @@ enum-told-3 c = search needs
 enum-told-4 : tie.Need-enum-told-4
 enum-told-4 c = search needs
 
--- src/show.rt:73:1
 returns : tie.Need-returns
 returns c = search needs
 
--- src/show.rt:73:1
 returns-2 : tie.Need-returns-2
 returns-2 c = search needs
 
--- src/show.rt:73:1
 returns-3 : tie.Need-returns-3
 returns-3 c = search needs
 

@@ -15,51 +15,39 @@ Inv-loop plan at number places n next₀ i₀ next i = Unit
 abbrev μ-loop : tie.MeasureT-loop
 μ-loop plan at number places n next₀ i₀ next i = n - i
 
--- src/show.rt:42:9
 move-count-requires : tie.Need-move-count-requires Inv-loop μ-loop
 move-count-requires c κs = search needs
 
--- src/show.rt:45:5
 loop-holds : tie.Need-loop-holds Inv-loop μ-loop
 loop-holds c = search needs
 
--- src/show.rt:46:13
 move-vm-requires : tie.Need-move-vm-requires Inv-loop μ-loop
 move-vm-requires c κs = search needs
 
--- src/show.rt:47:13
 move-to-requires : tie.Need-move-to-requires Inv-loop μ-loop
 move-to-requires c κs = search needs
 
--- src/show.rt:48:17
 cast-v : tie.Need-cast-v Inv-loop μ-loop
 cast-v c = search needs
 
--- src/show.rt:49:26
 array-read-line : tie.Need-array-read-line Inv-loop μ-loop
 array-read-line c = search needs
 
--- src/show.rt:49:9
 line-requires : tie.Need-line-requires Inv-loop μ-loop
 line-requires c κs = search needs
 
--- src/show.rt:50:9
 array-write-next : tie.Need-array-write-next Inv-loop μ-loop
 array-write-next c = search needs
 
--- src/show.rt:51:9
 add-i : tie.Need-add-i Inv-loop μ-loop
 add-i c = search needs
 
--- src/show.rt:45:5
 loop-less : tie.Need-loop-less Inv-loop μ-loop
 loop-less c = search needs
 
--- src/show.rt:45:5
 loop-again : tie.Need-loop-again Inv-loop μ-loop
 loop-again c = search needs
 
--- src/show.rt:39:1
 returns : tie.Need-returns Inv-loop μ-loop
 returns c = search needs
 

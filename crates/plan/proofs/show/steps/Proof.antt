@@ -17,43 +17,33 @@ Inv-loop cluster plan n places₀ at₀ i₀ places at i = Steps plan at (n - i)
 abbrev μ-loop : tie.MeasureT-loop
 μ-loop cluster plan n places₀ at₀ i₀ places at i = n - i
 
--- src/show.rt:60:9
 step-count-requires : tie.Need-step-count-requires Inv-loop μ-loop
 step-count-requires c κs = search needs
 
--- src/show.rt:61:9
 current-places-requires : tie.Need-current-places-requires Inv-loop μ-loop
 current-places-requires c κs = search needs
 
--- src/show.rt:64:5
 loop-holds : tie.Need-loop-holds Inv-loop μ-loop
 loop-holds c = search (needs, walk-start)
 
--- src/show.rt:65:35
 add-step : tie.Need-add-step Inv-loop μ-loop
 add-step c = search needs
 
--- src/show.rt:65:13
 step-requires : tie.Need-step-requires Inv-loop μ-loop
 step-requires c κs = search (needs, walk-here)
 
--- src/show.rt:67:9
 step-end-requires : tie.Need-step-end-requires Inv-loop μ-loop
 step-end-requires c κs = search (needs, walk-here)
 
--- src/show.rt:68:9
 add-i : tie.Need-add-i Inv-loop μ-loop
 add-i c = search needs
 
--- src/show.rt:64:5
 loop-less : tie.Need-loop-less Inv-loop μ-loop
 loop-less c = search needs
 
--- src/show.rt:64:5
 loop-again : tie.Need-loop-again Inv-loop μ-loop
 loop-again c = search (needs, walk-next)
 
--- src/show.rt:57:1
 returns : tie.Need-returns Inv-loop μ-loop
 returns c = search needs
 

@@ -21,47 +21,37 @@ Inv-loop cluster allow pairs places n dests₀ sums₀ v₀ dests sums v = (v �
 abbrev μ-loop : tie.MeasureT-loop
 μ-loop cluster allow pairs places n dests₀ sums₀ v₀ dests sums v = n - v
 
--- src/direct.rt:44:9
 vm-count-requires : tie.Need-vm-count-requires Inv-loop μ-loop
 vm-count-requires c κs = search needs
 
--- src/direct.rt:46:20
 loads-requires : tie.Need-loads-requires Inv-loop μ-loop
 loads-requires c κs = search (needs, rest-ready)
 
--- src/direct.rt:48:5
 loop-holds : tie.Need-loop-holds Inv-loop μ-loop
 loop-holds c = search (needs, directing-start)
 
--- src/direct.rt:49:17
 vm-target-requires : tie.Need-vm-target-requires Inv-loop μ-loop
 vm-target-requires c κs = search needs
 
--- src/direct.rt:49:17
 cast-d : tie.Need-cast-d Inv-loop μ-loop
 cast-d c = search needs
 
--- src/direct.rt:50:20
 mul-here : tie.Need-mul-here Inv-loop μ-loop
 mul-here c = search (needs, sum-offset)
 
--- src/direct.rt:50:20
 array-copy-out-here : tie.Need-array-copy-out-here Inv-loop μ-loop
 array-copy-out-here c =
     search (needs, sum-index)
 
--- src/direct.rt:51:13
 goal-requires : tie.Need-goal-requires Inv-loop μ-loop
 goal-requires c κs =
     let head = c .before .before .before .before in
     let pre = head .before .before .before .before .before .pre in
     (search needs, search needs, search needs, search needs, directing-light _ _ _ _ _ (head .loop .inv .1) (pre .0) (omega arith) _)
 
--- src/direct.rt:52:17
 cast-t : tie.Need-cast-t Inv-loop μ-loop
 cast-t c = search needs
 
--- src/direct.rt:53:21
 mul-there : tie.Need-mul-there Inv-loop μ-loop
 mul-there c =
     let sent = c in
@@ -70,7 +60,6 @@ mul-there c =
     let pre = head .before .before .before .before .before .pre in
     goal-offset _ _ _ _ _ _ _ (head .loop .inv .1) (pre .0) (omega arith) (target .vm-target .ensures .0) (target .vm-target .ensures .1) (sent .goal .ensures)
 
--- src/direct.rt:53:21
 array-copy-out-there : tie.Need-array-copy-out-there Inv-loop μ-loop
 array-copy-out-there c =
     let sent = c in
@@ -79,11 +68,9 @@ array-copy-out-there c =
     let pre = head .before .before .before .before .before .pre in
     goal-low _ _ _ _ _ _ _ (head .loop .inv .1) (pre .0) (omega arith) (target .vm-target .ensures .0) (target .vm-target .ensures .1) (sent .goal .ensures)
 
--- src/direct.rt:54:30
 need-of-requires : tie.Need-need-of-requires Inv-loop μ-loop
 need-of-requires c κs = search needs
 
--- src/direct.rt:54:19
 with-requires : tie.Need-with-requires Inv-loop μ-loop
 with-requires c κs =
     let sent = c .before .before in
@@ -92,7 +79,6 @@ with-requires c κs =
     let light = directing-light _ _ _ _ _ (head .loop .inv .1) (pre .0) (omega arith) (sent .goal .result) in
     (light .memory, light .cpu, c .need-of .ensures .memory-most, c .need-of .ensures .cpu-most)
 
--- src/direct.rt:54:9
 mul-sums : tie.Need-mul-sums Inv-loop μ-loop
 mul-sums c =
     let sent = c .before .before .before in
@@ -101,7 +87,6 @@ mul-sums c =
     let pre = head .before .before .before .before .before .pre in
     goal-offset _ _ _ _ _ _ _ (head .loop .inv .1) (pre .0) (omega arith) (target .vm-target .ensures .0) (target .vm-target .ensures .1) (sent .goal .ensures)
 
--- src/direct.rt:54:9
 array-set-from-sums : tie.Need-array-set-from-sums Inv-loop μ-loop
 array-set-from-sums c =
     let sent = c .before .before .before in
@@ -110,19 +95,15 @@ array-set-from-sums c =
     let pre = head .before .before .before .before .before .pre in
     goal-low _ _ _ _ _ _ _ (head .loop .inv .1) (pre .0) (omega arith) (target .vm-target .ensures .0) (target .vm-target .ensures .1) (sent .goal .ensures)
 
--- src/direct.rt:55:9
 array-write-dests : tie.Need-array-write-dests Inv-loop μ-loop
 array-write-dests c = search (needs, vm-low)
 
--- src/direct.rt:56:9
 add-v : tie.Need-add-v Inv-loop μ-loop
 add-v c = search needs
 
--- src/direct.rt:48:5
 loop-less : tie.Need-loop-less Inv-loop μ-loop
 loop-less c = search needs
 
--- src/direct.rt:48:5
 loop-again : tie.Need-loop-again Inv-loop μ-loop
 loop-again c =
     let need = c .before in
@@ -135,7 +116,6 @@ loop-again c =
           (need .need-of .ensures) (c .with .ensures),
     )
 
--- src/direct.rt:35:1
 returns : tie.Need-returns Inv-loop μ-loop
 returns c = search (needs, directing-end)
 

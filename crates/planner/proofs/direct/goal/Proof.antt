@@ -7,23 +7,18 @@ use Rattle.planner.proofs.direct.goal.Lts as lts
 use Rattle.planner.proofs.join.may_join.Reads as may-join-reads
 use Rattle.records.proofs.vm_target.Reads as vm-target-reads
 
--- src/direct.rt:27:9
 vm-target-requires : tie.Need-vm-target-requires
 vm-target-requires c κs = search needs
 
--- src/direct.rt:28:64
 cast-may-join : tie.Need-cast-may-join
 cast-may-join c = search needs
 
--- src/direct.rt:28:8
 may-join-requires : tie.Need-may-join-requires
 may-join-requires c κs = search needs
 
--- src/direct.rt:29:9
 returns : tie.Need-returns
 returns c = search (needs, goal-target)
 
--- src/direct.rt:15:1
 returns-2 : tie.Need-returns-2
 returns-2 c = search (needs, goal-none)
 

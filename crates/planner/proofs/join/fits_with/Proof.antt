@@ -8,19 +8,15 @@ use Rattle.rules.proofs.tally.Tally.with.Reads as with-reads
 use Rattle.rules.proofs.need_of.Reads as need-of-reads
 use Rattle.rules.proofs.within_node.Reads as within-node-reads
 
--- src/join.rt:17:46
 need-of-requires : tie.Need-need-of-requires
 need-of-requires c κs = search needs
 
--- src/join.rt:17:36
 with-requires : tie.Need-with-requires
 with-requires c κs = search needs
 
--- src/join.rt:17:5
 within-node-requires : tie.Need-within-node-requires
 within-node-requires c κs = search needs
 
--- src/join.rt:13:1
 returns : tie.Need-returns
 returns c = search (needs, with-fits)
 

@@ -9,43 +9,33 @@ use Rattle.planner.proofs.join.fits_with.Reads as fits-with-reads
 use Rattle.planner.proofs.mates.meets.Reads as meets-reads
 use Rattle.rules.proofs.node_at.Reads as node-at-reads
 
--- src/join.rt:34:8
 node-at-requires : tie.Need-node-at-requires
 node-at-requires c κs = search (needs, vm-low)
 
--- src/join.rt:35:9
 returns : tie.Need-returns
 returns c = search (needs, join-stays)
 
--- src/join.rt:37:14
 mul-if2 : tie.Need-mul-if2
 mul-if2 c = search (needs, row-offset)
 
--- src/join.rt:37:14
 add-if2 : tie.Need-add-if2
 add-if2 c = search (needs, mark-offset)
 
--- src/join.rt:37:8
 element-copy-out-if2 : tie.Need-element-copy-out-if2
 element-copy-out-if2 c = search (needs, mark-index)
 
--- src/join.rt:38:9
 returns-2 : tie.Need-returns-2
 returns-2 c = search (needs, join-kept)
 
--- src/join.rt:40:9
 fits-with-requires : tie.Need-fits-with-requires
 fits-with-requires c κs = search needs
 
--- src/join.rt:41:9
 returns-3 : tie.Need-returns-3
 returns-3 c = search (needs, not-true, join-full)
 
--- src/join.rt:43:6
 meets-requires : tie.Need-meets-requires
 meets-requires c κs = search (needs, node-low)
 
--- src/join.rt:21:1
 returns-4 : tie.Need-returns-4
 returns-4 c = search (needs, not-false, join-met)
 

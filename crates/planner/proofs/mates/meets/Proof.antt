@@ -19,47 +19,36 @@ Inv-loop cluster pairs places dests v d n w₀ w = (w ≤ n) × (meetsMate (room
 abbrev μ-loop : tie.MeasureT-loop
 μ-loop cluster pairs places dests v d n w₀ w = n - w
 
--- src/mates.rt:83:9
 vm-count-requires : tie.Need-vm-count-requires Inv-loop μ-loop
 vm-count-requires c κs = search needs
 
--- src/mates.rt:85:5
 loop-holds : tie.Need-loop-holds Inv-loop μ-loop
 loop-holds c = search (needs, meets-start)
 
--- src/mates.rt:86:18
 mul-if1 : tie.Need-mul-if1 Inv-loop μ-loop
 mul-if1 c = search needs
 
--- src/mates.rt:86:18
 add-if1 : tie.Need-add-if1 Inv-loop μ-loop
 add-if1 c = search needs
 
--- src/mates.rt:86:12
 element-copy-out-if1 : tie.Need-element-copy-out-if1 Inv-loop μ-loop
 element-copy-out-if1 c = search needs
 
--- src/mates.rt:88:20
 counts-requires : tie.Need-counts-requires Inv-loop μ-loop
 counts-requires c κs = search needs
 
--- src/mates.rt:89:21
 returns : tie.Need-returns Inv-loop μ-loop
 returns c = search (needs, meets-found)
 
--- src/mates.rt:93:9
 add-w : tie.Need-add-w Inv-loop μ-loop
 add-w c = search needs
 
--- src/mates.rt:85:5
 loop-less : tie.Need-loop-less Inv-loop μ-loop
 loop-less c = search needs
 
--- src/mates.rt:85:5
 loop-again : tie.Need-loop-again Inv-loop μ-loop
 loop-again c = ⊎-elim (λ u. search (needs, meets-away)) (λ u. ⊎-elim (λ x. search (needs, meets-self)) (λ x. search (needs, meets-unmarked)) u) (c .if1 .came)
 
--- src/mates.rt:79:1
 returns-2 : tie.Need-returns-2 Inv-loop μ-loop
 returns-2 c = search (needs, meets-end)
 

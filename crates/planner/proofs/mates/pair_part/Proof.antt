@@ -8,19 +8,15 @@ use Rattle.planner.proofs.mates.pair_rows.Reads as pair-rows-reads
 use Rattle.records.proofs.bound_vms.Reads as bound-vms-reads
 use Rattle.records.proofs.kind_at.Reads as kind-at-reads
 
--- src/mates.rt:43:9
 kind-at-requires : tie.Need-kind-at-requires
 kind-at-requires c κs = search needs
 
--- src/mates.rt:45:35
 enum-told : tie.Need-enum-told
 enum-told c = search needs
 
--- src/mates.rt:45:35
 bound-vms-requires : tie.Need-bound-vms-requires
 bound-vms-requires c κs = search needs
 
--- src/mates.rt:45:25
 pair-rows-requires : tie.Need-pair-rows-requires
 pair-rows-requires c κs = search needs
 
@@ -33,19 +29,15 @@ enum-told-3 c = search needs
 enum-told-4 : tie.Need-enum-told-4
 enum-told-4 c = search needs
 
--- src/mates.rt:39:1
 returns : tie.Need-returns
 returns c = search (needs, part-spread)
 
--- src/mates.rt:39:1
 returns-2 : tie.Need-returns-2
 returns-2 c = search (needs, part-ban)
 
--- src/mates.rt:39:1
 returns-3 : tie.Need-returns-3
 returns-3 c = search (needs, part-fence)
 
--- src/mates.rt:39:1
 returns-4 : tie.Need-returns-4
 returns-4 c = search (needs, part-latency)
 

@@ -16,39 +16,30 @@ Inv-loop vms v table₀ i₀ table i = (i ≤ length vms) × (pairRow table v (d
 abbrev μ-loop : tie.MeasureT-loop
 μ-loop vms v table₀ i₀ table i = length vms - i
 
--- src/mates.rt:20:5
 loop-holds : tie.Need-loop-holds Inv-loop μ-loop
 loop-holds c = search needs
 
--- src/mates.rt:21:13
 entry-requires : tie.Need-entry-requires Inv-loop μ-loop
 entry-requires c κs = search needs
 
--- src/mates.rt:22:15
 mul-table : tie.Need-mul-table Inv-loop μ-loop
 mul-table c = search needs
 
--- src/mates.rt:22:15
 add-table : tie.Need-add-table Inv-loop μ-loop
 add-table c = search needs
 
--- src/mates.rt:22:9
 element-write-table : tie.Need-element-write-table Inv-loop μ-loop
 element-write-table c = search needs
 
--- src/mates.rt:23:9
 add-i : tie.Need-add-i Inv-loop μ-loop
 add-i c = search needs
 
--- src/mates.rt:20:5
 loop-less : tie.Need-loop-less Inv-loop μ-loop
 loop-less c = search needs
 
--- src/mates.rt:20:5
 loop-again : tie.Need-loop-again Inv-loop μ-loop
 loop-again c = search (needs, row-more)
 
--- src/mates.rt:15:1
 returns : tie.Need-returns Inv-loop μ-loop
 returns c = search (needs, row-end)
 

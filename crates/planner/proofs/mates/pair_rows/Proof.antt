@@ -17,31 +17,24 @@ Inv-loop vms table₀ i₀ table i = (i ≤ length vms) × (pairRows table vms (
 abbrev μ-loop : tie.MeasureT-loop
 μ-loop vms table₀ i₀ table i = length vms - i
 
--- src/mates.rt:32:5
 loop-holds : tie.Need-loop-holds Inv-loop μ-loop
 loop-holds c = search needs
 
--- src/mates.rt:33:23
 entry-requires : tie.Need-entry-requires Inv-loop μ-loop
 entry-requires c κs = search needs
 
--- src/mates.rt:33:9
 pair-row-requires : tie.Need-pair-row-requires Inv-loop μ-loop
 pair-row-requires c κs = search needs
 
--- src/mates.rt:34:9
 add-i : tie.Need-add-i Inv-loop μ-loop
 add-i c = search needs
 
--- src/mates.rt:32:5
 loop-less : tie.Need-loop-less Inv-loop μ-loop
 loop-less c = search needs
 
--- src/mates.rt:32:5
 loop-again : tie.Need-loop-again Inv-loop μ-loop
 loop-again c = search (needs, rows-more)
 
--- src/mates.rt:28:1
 returns : tie.Need-returns Inv-loop μ-loop
 returns c = search (needs, rows-end)
 

@@ -22,43 +22,33 @@ Inv-loop cluster table₀ at₀ left₀ table at left = Parts cluster at left ×
 abbrev μ-loop : tie.MeasureT-loop
 μ-loop cluster table₀ at₀ left₀ table at left = left
 
--- src/mates.rt:57:9
 first-constraint-requires : tie.Need-first-constraint-requires Inv-loop μ-loop
 first-constraint-requires c κs = search needs
 
--- src/mates.rt:58:9
 constraint-count-requires : tie.Need-constraint-count-requires Inv-loop μ-loop
 constraint-count-requires c κs = search needs
 
--- src/mates.rt:59:5
 loop-holds : tie.Need-loop-holds Inv-loop μ-loop
 loop-holds c = search (needs, walk-from, pairs-from)
 
--- src/mates.rt:60:13
 part-requires : tie.Need-part-requires Inv-loop μ-loop
 part-requires c κs = search (needs, walk-within)
 
--- src/mates.rt:61:9
 pair-part-requires : tie.Need-pair-part-requires Inv-loop μ-loop
 pair-part-requires c κs = search (needs, walk-filled)
 
--- src/mates.rt:62:9
 add-at : tie.Need-add-at Inv-loop μ-loop
 add-at c = search (needs, parts-add)
 
--- src/mates.rt:63:9
 sub-left : tie.Need-sub-left Inv-loop μ-loop
 sub-left c = search needs
 
--- src/mates.rt:59:5
 loop-less : tie.Need-loop-less Inv-loop μ-loop
 loop-less c = search needs
 
--- src/mates.rt:59:5
 loop-again : tie.Need-loop-again Inv-loop μ-loop
 loop-again c = search (needs, walk-next, pairs-more)
 
--- src/mates.rt:53:1
 returns : tie.Need-returns Inv-loop μ-loop
 returns c = search (needs, pairs-end)
 

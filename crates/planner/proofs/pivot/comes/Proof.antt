@@ -7,27 +7,21 @@ use Rattle.planner.proofs.pivot.comes.Lts as lts
 use Rattle.planner.proofs.pivot.goes_alone.Reads as goes-alone-reads
 use Rattle.records.proofs.vm_target.Reads as vm-target-reads
 
--- src/pivot.rt:90:8
 vm-target-requires : tie.Need-vm-target-requires
 vm-target-requires c κs = search needs
 
--- src/pivot.rt:90:8
 cast-if1 : tie.Need-cast-if1
 cast-if1 c = search needs
 
--- src/pivot.rt:91:9
 returns : tie.Need-returns
 returns c = search (needs, comer-elsewhere)
 
--- src/pivot.rt:94:9
 returns-2 : tie.Need-returns-2
 returns-2 c = search (needs, comer-same)
 
--- src/pivot.rt:96:5
 goes-alone-requires : tie.Need-goes-alone-requires
 goes-alone-requires c κs = search needs
 
--- src/pivot.rt:77:1
 returns-3 : tie.Need-returns-3
 returns-3 c = search (needs, comer-goes)
 

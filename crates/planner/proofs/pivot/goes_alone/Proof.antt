@@ -6,11 +6,9 @@ use Rattle.planner.proofs.pivot.goes_alone.Reads as reads
 use Rattle.planner.proofs.pivot.goes_alone.Lts as lts
 use Rattle.planner.proofs.join.may_join.Reads as may-join-reads
 
--- src/pivot.rt:30:5
 may-join-requires : tie.Need-may-join-requires
 may-join-requires c κs = search needs
 
--- src/pivot.rt:17:1
 returns : tie.Need-returns
 returns c = search (needs, lone-sound)
 

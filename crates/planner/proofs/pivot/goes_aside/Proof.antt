@@ -7,23 +7,18 @@ use Rattle.planner.proofs.pivot.goes_aside.Lts as lts
 use Rattle.planner.proofs.pivot.goes_alone.Reads as goes-alone-reads
 use Rattle.records.proofs.vm_target.Reads as vm-target-reads
 
--- src/pivot.rt:46:8
 vm-target-requires : tie.Need-vm-target-requires
 vm-target-requires c κs = search needs
 
--- src/pivot.rt:46:8
 cast-if1 : tie.Need-cast-if1
 cast-if1 c = search needs
 
--- src/pivot.rt:47:9
 returns : tie.Need-returns
 returns c = search (needs, aside-target)
 
--- src/pivot.rt:49:5
 goes-alone-requires : tie.Need-goes-alone-requires
 goes-alone-requires c κs = search needs
 
--- src/pivot.rt:34:1
 returns-2 : tie.Need-returns-2
 returns-2 c = search (needs, aside-sound)
 

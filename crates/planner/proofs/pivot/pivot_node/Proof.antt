@@ -22,45 +22,35 @@ Inv-loop cluster allow pairs places v sums n d₀ d = (d ≤ n) × (pivotNode (r
 abbrev μ-loop : tie.MeasureT-loop
 μ-loop cluster allow pairs places v sums n d₀ d = n - d
 
--- src/pivot.rt:64:9
 node-count-requires : tie.Need-node-count-requires Inv-loop μ-loop
 node-count-requires c κs = search needs
 
--- src/pivot.rt:66:5
 loop-holds : tie.Need-loop-holds Inv-loop μ-loop
 loop-holds c = search (needs, node-start)
 
--- src/pivot.rt:67:20
 mul-here : tie.Need-mul-here Inv-loop μ-loop
 mul-here c = search (needs, sum-offset)
 
--- src/pivot.rt:67:20
 array-copy-out-here : tie.Need-array-copy-out-here Inv-loop μ-loop
 array-copy-out-here c = search (needs, sum-index)
 
--- src/pivot.rt:68:12
 goes-aside-requires : tie.Need-goes-aside-requires Inv-loop μ-loop
 goes-aside-requires c κs =
     let pre = c .before .before .before .before .before .pre in
     (search needs, search needs, search needs, search needs, search needs, rested-still _ _ _ _ (pre .3) (pre .0) (omega arith))
 
--- src/pivot.rt:69:13
 returns : tie.Need-returns Inv-loop μ-loop
 returns c = search (needs, node-found)
 
--- src/pivot.rt:71:9
 add-d : tie.Need-add-d Inv-loop μ-loop
 add-d c = search needs
 
--- src/pivot.rt:66:5
 loop-less : tie.Need-loop-less Inv-loop μ-loop
 loop-less c = search needs
 
--- src/pivot.rt:66:5
 loop-again : tie.Need-loop-again Inv-loop μ-loop
 loop-again c = search (needs, node-more)
 
--- src/pivot.rt:53:1
 returns-2 : tie.Need-returns-2 Inv-loop μ-loop
 returns-2 c = search (needs, node-end)
 

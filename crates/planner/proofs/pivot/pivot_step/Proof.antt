@@ -25,35 +25,27 @@ Inv-loop cluster allow pairs places n nodes dests₀ sums v₀ dests v = (v ≤ 
 abbrev μ-loop : tie.MeasureT-loop
 μ-loop cluster allow pairs places n nodes dests₀ sums v₀ dests v = n - v
 
--- src/pivot.rt:164:9
 vm-count-requires : tie.Need-vm-count-requires Inv-loop μ-loop
 vm-count-requires c κs = search needs
 
--- src/pivot.rt:165:9
 node-count-requires : tie.Need-node-count-requires Inv-loop μ-loop
 node-count-requires c κs = search needs
 
--- src/pivot.rt:167:9
 loads-requires : tie.Need-loads-requires Inv-loop μ-loop
 loads-requires c κs = search (needs, rest-ready)
 
--- src/pivot.rt:169:5
 loop-holds : tie.Need-loop-holds Inv-loop μ-loop
 loop-holds c = search (needs, first-start)
 
--- src/pivot.rt:170:13
 useful-node-requires : tie.Need-useful-node-requires Inv-loop μ-loop
 useful-node-requires c κs = search needs
 
--- src/pivot.rt:172:24
 cast-dests : tie.Need-cast-dests Inv-loop μ-loop
 cast-dests c = search needs
 
--- src/pivot.rt:172:13
 array-write-dests : tie.Need-array-write-dests Inv-loop μ-loop
 array-write-dests c = search (needs, vm-low)
 
--- src/pivot.rt:173:13
 returns : tie.Need-returns Inv-loop μ-loop
 returns c =
     let found = c .before in
@@ -61,15 +53,12 @@ returns c =
     let nodes = head .before .before .before .before in
     first-found _ _ _ _ _ _ _ _ (found .useful-node .ensures) (head .loop .inv .2) (head .loop .inv .1) (nodes .node-count .ensures .0) (found .before .loop-test .taken) (c .if1 .taken)
 
--- src/pivot.rt:175:9
 add-v : tie.Need-add-v Inv-loop μ-loop
 add-v c = search needs
 
--- src/pivot.rt:169:5
 loop-less : tie.Need-loop-less Inv-loop μ-loop
 loop-less c = search needs
 
--- src/pivot.rt:169:5
 loop-again : tie.Need-loop-again Inv-loop μ-loop
 loop-again c =
     let found = c .before in
@@ -80,7 +69,6 @@ loop-again c =
       first-more _ _ _ _ _ _ _ _ (found .useful-node .ensures) (head .loop .inv .2) (head .loop .inv .1) (nodes .node-count .ensures .0) (found .before .loop-test .taken) (c .if1 .left),
     )
 
--- src/pivot.rt:155:1
 returns-2 : tie.Need-returns-2 Inv-loop μ-loop
 returns-2 c = search (needs, first-none)
 

@@ -23,47 +23,36 @@ Inv-loop cluster allow pairs places v p n here u₀ u = (u ≤ n) × (comesTo (r
 abbrev μ-loop : tie.MeasureT-loop
 μ-loop cluster allow pairs places v p n here u₀ u = n - u
 
--- src/pivot.rt:111:9
 vm-count-requires : tie.Need-vm-count-requires Inv-loop μ-loop
 vm-count-requires c κs = search needs
 
--- src/pivot.rt:113:16
 loads-requires : tie.Need-loads-requires Inv-loop μ-loop
 loads-requires c κs = search (needs, rest-ready)
 
--- src/pivot.rt:114:16
 mul-here : tie.Need-mul-here Inv-loop μ-loop
 mul-here c = search (needs, sum-offset)
 
--- src/pivot.rt:114:16
 array-copy-out-here : tie.Need-array-copy-out-here Inv-loop μ-loop
 array-copy-out-here c = search (needs, sum-index)
 
--- src/pivot.rt:116:5
 loop-holds : tie.Need-loop-holds Inv-loop μ-loop
 loop-holds c = search (needs, comes-start)
 
--- src/pivot.rt:117:12
 comes-requires : tie.Need-comes-requires Inv-loop μ-loop
 comes-requires c κs = search (needs, rested)
 
--- src/pivot.rt:118:13
 returns : tie.Need-returns Inv-loop μ-loop
 returns c = search (needs, comes-found)
 
--- src/pivot.rt:120:9
 add-u : tie.Need-add-u Inv-loop μ-loop
 add-u c = search needs
 
--- src/pivot.rt:116:5
 loop-less : tie.Need-loop-less Inv-loop μ-loop
 loop-less c = search needs
 
--- src/pivot.rt:116:5
 loop-again : tie.Need-loop-again Inv-loop μ-loop
 loop-again c = search (needs, comes-more)
 
--- src/pivot.rt:100:1
 returns-2 : tie.Need-returns-2 Inv-loop μ-loop
 returns-2 c = search (needs, comes-none)
 

@@ -13,43 +13,33 @@ use Rattle.records.proofs.node_count.Reads as node-count-reads
 use Rattle.records.proofs.vm_target.Reads as vm-target-reads
 use Rattle.rules.proofs.node_at.Reads as node-at-reads
 
--- src/pivot.rt:137:9
 node-count-requires : tie.Need-node-count-requires
 node-count-requires c κs = search needs
 
--- src/pivot.rt:138:9
 node-at-requires : tie.Need-node-at-requires
 node-at-requires c κs = search (needs, vm-low)
 
--- src/pivot.rt:139:13
 vm-target-requires : tie.Need-vm-target-requires
 vm-target-requires c κs = search needs
 
--- src/pivot.rt:139:13
 cast-if1 : tie.Need-cast-if1
 cast-if1 c = search needs
 
--- src/pivot.rt:140:9
 returns : tie.Need-returns
 returns c = search (needs, useful-kept)
 
--- src/pivot.rt:142:9
 pivot-node-requires : tie.Need-pivot-node-requires
 pivot-node-requires c κs = search needs
 
--- src/pivot.rt:144:9
 returns-2 : tie.Need-returns-2
 returns-2 c = search (needs, useful-lost)
 
--- src/pivot.rt:147:15
 cast-then : tie.Need-cast-then
 cast-then c = search needs
 
--- src/pivot.rt:147:5
 array-write-then : tie.Need-array-write-then
 array-write-then c = search (needs, vm-low)
 
--- src/pivot.rt:148:8
 some-comes-requires : tie.Need-some-comes-requires
 some-comes-requires c κs =
     let else2 = c .before in
@@ -58,7 +48,6 @@ some-comes-requires c κs =
     let pre = start .pre in
     (search needs, search needs, search needs, set-below _ _ _ _ (pre .3) (omega arith), place-there _ _ _ _ (place .node-at .ensures .0) (pre .3))
 
--- src/pivot.rt:149:9
 returns-3 : tie.Need-returns-3
 returns-3 c =
     let came = c .before in
@@ -73,7 +62,6 @@ returns-3 c =
     useful-yes _ _ _ _ _ _ (pre .3) (count .node-count .ensures .0) (place .node-at .ensures .0) (target .vm-target .ensures .0) (pre .0) (pre .5) (else1 .if1 .left) _ (node .pivot-node .ensures) _
     (came .some-comes .ensures) (pre .6) (wide .if2 .left) (start .good .1 .1 .1 .0 .1 .0 .1) (c .if3 .taken)
 
--- src/pivot.rt:126:1
 returns-4 : tie.Need-returns-4
 returns-4 c =
     let came = c .before in

@@ -7,31 +7,24 @@ use Rattle.planner.proofs.plan.answer_to.Lts as lts
 use Rattle.planner.proofs.plan.plan_target.Reads as plan-target-reads
 use Rattle.records.proofs.cluster_check.Reads as cluster-check-reads
 
--- src/plan.rt:66:9
 cluster-check-requires : tie.Need-cluster-check-requires
 cluster-check-requires c κs = search needs
 
--- src/plan.rt:68:31
 enum-known-found : tie.Need-enum-known-found
 enum-known-found c = search needs
 
--- src/plan.rt:69:53
 enum-told : tie.Need-enum-told
 enum-told c = search needs
 
--- src/plan.rt:69:32
 plan-target-requires : tie.Need-plan-target-requires
 plan-target-requires c κs = search (needs, cluster-whole)
 
--- src/plan.rt:63:1
 returns : tie.Need-returns
 returns c = search (needs, answer-cluster)
 
--- src/plan.rt:63:1
 same-length : tie.Need-same-length
 same-length c = search needs
 
--- src/plan.rt:63:1
 returns-2 : tie.Need-returns-2
 returns-2 c = search (needs, answer-whole)
 

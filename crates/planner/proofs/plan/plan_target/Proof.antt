@@ -7,35 +7,27 @@ use Rattle.planner.proofs.plan.plan_target.Lts as lts
 use Rattle.planner.proofs.plan.planned.Reads as planned-reads
 use Rattle.rules.proofs.target_check.Reads as target-check-reads
 
--- src/plan.rt:50:9
 target-check-requires : tie.Need-target-check-requires
 target-check-requires c κs = search needs
 
--- src/plan.rt:52:26
 enum-known-found : tie.Need-enum-known-found
 enum-known-found c = search needs
 
--- src/plan.rt:54:16
 enum-told : tie.Need-enum-told
 enum-told c = search needs
 
--- src/plan.rt:55:17
 returns : tie.Need-returns
 returns c = search (needs, answer-buffer)
 
--- src/plan.rt:57:13
 planned-requires : tie.Need-planned-requires
 planned-requires c κs = search needs
 
--- src/plan.rt:46:1
 returns-2 : tie.Need-returns-2
 returns-2 c = search (needs, answer-target)
 
--- src/plan.rt:46:1
 same-length : tie.Need-same-length
 same-length c = search needs
 
--- src/plan.rt:46:1
 returns-3 : tie.Need-returns-3
 returns-3 c = search (needs, answer-taken)
 

@@ -13,24 +13,19 @@ use Rattle.records.proofs.finish_plan.Reads as finish-plan-reads
 use Rattle.rules.proofs.allow_table.Reads as allow-table-reads
 use Rattle.rules.proofs.plan_cost.Reads as plan-cost-reads
 
--- src/plan.rt:27:17
 allow-table-requires : tie.Need-allow-table-requires
 allow-table-requires c κs = search needs
 
--- src/plan.rt:29:5
 pair-table-requires : tie.Need-pair-table-requires
 pair-table-requires c κs =
     (search needs, blank-zeros 65536 refl)
 
--- src/plan.rt:30:9
 write-steps-requires : tie.Need-write-steps-requires
 write-steps-requires c κs = search (needs, table-allows)
 
--- src/plan.rt:32:5
 finish-plan-requires : tie.Need-finish-plan-requires
 finish-plan-requires c κs = search needs
 
--- src/plan.rt:36:41
 slice-reshare-prefix-plan-cost : tie.Need-slice-reshare-prefix-plan-cost
 slice-reshare-prefix-plan-cost c =
     let fin = c .before .before in
@@ -38,7 +33,6 @@ slice-reshare-prefix-plan-cost c =
     let pre = made .before .before .before .before .before .before .before .before .before .pre in
     part-low _ _ _ _ (made .write-steps .ensures) (pre .1) _ (fin .finish-plan .ensures)
 
--- src/plan.rt:36:41
 slice-aggregate-plan-cost : tie.Need-slice-aggregate-plan-cost
 slice-aggregate-plan-cost c =
     let fin = c .before .before .before in
@@ -46,23 +40,18 @@ slice-aggregate-plan-cost c =
     let pre = made .before .before .before .before .before .before .before .before .before .pre in
     sym (part-length _ _ _ _ (made .write-steps .ensures) (pre .1) _ (fin .finish-plan .ensures))
 
--- src/plan.rt:36:15
 plan-cost-requires : tie.Need-plan-cost-requires
 plan-cost-requires c κs = search (needs, part-whole)
 
--- src/plan.rt:23:1
 same-length : tie.Need-same-length
 same-length c = search needs
 
--- src/plan.rt:23:1
 returns : tie.Need-returns
 returns c = search (needs, answer-plan)
 
--- src/plan.rt:23:1
 same-length-2 : tie.Need-same-length-2
 same-length-2 c = search needs
 
--- src/plan.rt:23:1
 returns-2 : tie.Need-returns-2
 returns-2 c = search (needs, answer-blocked)
 

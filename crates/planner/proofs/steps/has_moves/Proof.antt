@@ -16,31 +16,24 @@ Inv-loop dests n v₀ v = (v ≤ n) × (ltb 0 (length (movesIn dests v (n - v)))
 abbrev μ-loop : tie.MeasureT-loop
 μ-loop dests n v₀ v = n - v
 
--- src/steps.rt:24:5
 loop-holds : tie.Need-loop-holds Inv-loop μ-loop
 loop-holds c = search (needs, has-start)
 
--- src/steps.rt:25:12
 element-copy-out-if1 : tie.Need-element-copy-out-if1 Inv-loop μ-loop
 element-copy-out-if1 c = search needs
 
--- src/steps.rt:26:13
 returns : tie.Need-returns Inv-loop μ-loop
 returns c = search (needs, has-one)
 
--- src/steps.rt:28:9
 add-v : tie.Need-add-v Inv-loop μ-loop
 add-v c = search needs
 
--- src/steps.rt:24:5
 loop-less : tie.Need-loop-less Inv-loop μ-loop
 loop-less c = search needs
 
--- src/steps.rt:24:5
 loop-again : tie.Need-loop-again Inv-loop μ-loop
 loop-again c = search (needs, has-more)
 
--- src/steps.rt:19:1
 returns-2 : tie.Need-returns-2 Inv-loop μ-loop
 returns-2 c = search (needs, has-none)
 

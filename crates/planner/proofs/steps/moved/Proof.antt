@@ -17,39 +17,30 @@ Inv-loop dests vms next₀ v₀ next v = (v ≤ vms) × (after next (movesIn des
 abbrev μ-loop : tie.MeasureT-loop
 μ-loop dests vms next₀ v₀ next v = vms - v
 
--- src/steps.rt:91:5
 loop-holds : tie.Need-loop-holds Inv-loop μ-loop
 loop-holds c = search (needs, moved-start)
 
--- src/steps.rt:92:26
 element-copy-out-settle : tie.Need-element-copy-out-settle Inv-loop μ-loop
 element-copy-out-settle c = search needs
 
--- src/steps.rt:92:36
 array-read-settle : tie.Need-array-read-settle Inv-loop μ-loop
 array-read-settle c = search needs
 
--- src/steps.rt:92:19
 settle-requires : tie.Need-settle-requires Inv-loop μ-loop
 settle-requires c κs = search needs
 
--- src/steps.rt:92:9
 array-write-next : tie.Need-array-write-next Inv-loop μ-loop
 array-write-next c = search needs
 
--- src/steps.rt:93:9
 add-v : tie.Need-add-v Inv-loop μ-loop
 add-v c = search needs
 
--- src/steps.rt:91:5
 loop-less : tie.Need-loop-less Inv-loop μ-loop
 loop-less c = search needs
 
--- src/steps.rt:91:5
 loop-again : tie.Need-loop-again Inv-loop μ-loop
 loop-again c = search (needs, moved-more)
 
--- src/steps.rt:85:1
 returns : tie.Need-returns Inv-loop μ-loop
 returns c = search (needs, moved-end)
 

@@ -9,27 +9,21 @@ use Rattle.planner.proofs.pivot.pivot_step.Reads as pivot-step-reads
 use Rattle.planner.proofs.steps.has_moves.Reads as has-moves-reads
 use Rattle.records.proofs.vm_count.Reads as vm-count-reads
 
--- src/steps.rt:43:17
 direct-step-requires : tie.Need-direct-step-requires
 direct-step-requires c κs = search needs
 
--- src/steps.rt:44:26
 vm-count-requires : tie.Need-vm-count-requires
 vm-count-requires c κs = search needs
 
--- src/steps.rt:44:8
 has-moves-requires : tie.Need-has-moves-requires
 has-moves-requires c κs = search needs
 
--- src/steps.rt:45:9
 returns : tie.Need-returns
 returns c = search (needs, next-direct)
 
--- src/steps.rt:47:5
 pivot-step-requires : tie.Need-pivot-step-requires
 pivot-step-requires c κs = search (needs, next-none)
 
--- src/steps.rt:34:1
 returns-2 : tie.Need-returns-2
 returns-2 c = search (needs, next-pivot)
 

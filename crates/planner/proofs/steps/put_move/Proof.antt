@@ -6,27 +6,21 @@ use Rattle.planner.proofs.steps.put_move.Reads as reads
 use Rattle.planner.proofs.steps.put_move.Lts as lts
 use Rattle.records.proofs.append_move.Reads as append-move-reads
 
--- src/steps.rt:56:9
 returns : tie.Need-returns
 returns c = search (needs, count-none, put-none)
 
--- src/steps.rt:58:38
 cast-append-move : tie.Need-cast-append-move
 cast-append-move c = search needs
 
--- src/steps.rt:58:5
 append-move-requires : tie.Need-append-move-requires
 append-move-requires c κs = search (needs, room-one)
 
--- src/steps.rt:59:5
 add-result : tie.Need-add-result
 add-result c = search needs
 
--- src/steps.rt:51:1
 same-length : tie.Need-same-length
 same-length c = search needs
 
--- src/steps.rt:51:1
 returns-2 : tie.Need-returns-2
 returns-2 c = search (needs, count-one, put-one)
 

@@ -17,36 +17,28 @@ Inv-loop out₀ at dests vms n₀ v₀ out n v = (v ≤ vms) × (length out ≡ 
 abbrev μ-loop : tie.MeasureT-loop
 μ-loop out₀ at dests vms n₀ v₀ out n v = vms - v
 
--- src/steps.rt:69:5
 loop-holds : tie.Need-loop-holds Inv-loop μ-loop
 unfolding movesIn
 loop-holds c = search (needs, put-start)
 
--- src/steps.rt:70:17
 element-copy-out-d : tie.Need-element-copy-out-d Inv-loop μ-loop
 element-copy-out-d c = search needs
 
--- src/steps.rt:71:9
 put-move-requires : tie.Need-put-move-requires Inv-loop μ-loop
 put-move-requires c κs = search (needs, put-room)
 
--- src/steps.rt:72:9
 add-v : tie.Need-add-v Inv-loop μ-loop
 add-v c = search needs
 
--- src/steps.rt:69:5
 loop-less : tie.Need-loop-less Inv-loop μ-loop
 loop-less c = search needs
 
--- src/steps.rt:69:5
 loop-again : tie.Need-loop-again Inv-loop μ-loop
 loop-again c = search (needs, put-count, put-more)
 
--- src/steps.rt:63:1
 same-length : tie.Need-same-length Inv-loop μ-loop
 same-length c = search needs
 
--- src/steps.rt:63:1
 returns : tie.Need-returns Inv-loop μ-loop
 returns c = search (needs, count-end, put-end)
 

@@ -5,11 +5,9 @@ use Rattle.planner.proofs.steps.settle.Tie as tie
 use Rattle.planner.proofs.steps.settle.Reads as reads
 use Rattle.planner.proofs.steps.settle.Lts as lts
 
--- src/steps.rt:78:1
 returns : tie.Need-returns
 returns c = search (needs, behind-step-stays)
 
--- src/steps.rt:78:1
 returns-2 : tie.Need-returns-2
 returns-2 c = search (needs, behind-step-goes)
 

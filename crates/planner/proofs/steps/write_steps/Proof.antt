@@ -23,31 +23,25 @@ Inv-loop cluster allow pairs out₀ vms places₀ end₀ steps₀ moves₀ out p
 abbrev μ-loop : tie.MeasureT-loop
 μ-loop cluster allow pairs out₀ vms places₀ end₀ steps₀ moves₀ out places end steps moves = budget (roomOf cluster) (held cluster places)
 
--- src/steps.rt:116:9
 vm-count-requires : tie.Need-vm-count-requires Inv-loop μ-loop
 vm-count-requires c κs = search needs
 
--- src/steps.rt:117:22
 current-places-requires : tie.Need-current-places-requires Inv-loop μ-loop
 current-places-requires c κs = search needs
 
--- src/steps.rt:121:5
 loop-holds : tie.Need-loop-holds Inv-loop μ-loop
 loop-holds c =
     let start = c .before .before .before .before in
     making-start _ _ _ (c .current-places .ensures) (search (needs, c .current-places .ok)) (start .pre .0) (start .pre .3)
 
--- src/steps.rt:122:21
 next-step-requires : tie.Need-next-step-requires Inv-loop μ-loop
 next-step-requires c κs =
     let pre = c .before .before .before .before .before .pre in
     (pre .0, pre .1, pre .2, c .loop .inv .placed)
 
--- src/steps.rt:123:13
 has-moves-requires : tie.Need-has-moves-requires Inv-loop μ-loop
 has-moves-requires c κs = search needs
 
--- src/steps.rt:126:13
 put-moves-requires : tie.Need-put-moves-requires Inv-loop μ-loop
 put-moves-requires c κs =
     let els = c .before .before in
@@ -59,7 +53,6 @@ put-moves-requires c κs =
     let ok = not-false _ (els .if1 .left) in
     (turn-room _ _ _ _ _ _ _ _ _ _ (head .loop .inv) (nxt .next-step .ensures) (has .has-moves .ensures) (cnt .vm-count .ensures .0) (pre .0) ok (pre .3), search needs)
 
--- src/steps.rt:127:9
 finish-step-requires : tie.Need-finish-step-requires Inv-loop μ-loop
 finish-step-requires c κs =
     let put = c .before .before .before in
@@ -72,11 +65,9 @@ finish-step-requires c κs =
     let ok = not-false _ (els .if1 .left) in
     turn-fits _ _ _ _ _ _ _ _ _ _ (head .loop .inv) (nxt .next-step .ensures) (has .has-moves .ensures) (cnt .vm-count .ensures .0) (pre .0) ok (pre .3) _ (put .put-moves .ensures .0) _ (put .put-moves .ensures .1)
 
--- src/steps.rt:128:18
 moved-requires : tie.Need-moved-requires Inv-loop μ-loop
 moved-requires c κs = search needs
 
--- src/steps.rt:129:9
 add-steps : tie.Need-add-steps Inv-loop μ-loop
 add-steps c =
     let fin = c .before .before .before .before in
@@ -90,7 +81,6 @@ add-steps c =
     let ok = not-false _ (els .if1 .left) in
     steps-low _ _ _ _ _ _ _ _ _ _ (head .loop .inv) (nxt .next-step .ensures) (has .has-moves .ensures) (cnt .vm-count .ensures .0) (pre .0) ok (pre .3) _ (put .put-moves .ensures .0)
 
--- src/steps.rt:130:9
 add-moves : tie.Need-add-moves Inv-loop μ-loop
 add-moves c =
     let fin = c .before .before .before .before in
@@ -104,7 +94,6 @@ add-moves c =
     let ok = not-false _ (els .if1 .left) in
     moves-low _ _ _ _ _ _ _ _ _ _ (head .loop .inv) (nxt .next-step .ensures) (has .has-moves .ensures) (cnt .vm-count .ensures .0) (pre .0) ok (pre .3) _ (put .put-moves .ensures .0)
 
--- src/steps.rt:121:5
 loop-less : tie.Need-loop-less Inv-loop μ-loop
 loop-less c =
     let fin = c .before .before .before .before in
@@ -118,7 +107,6 @@ loop-less c =
     let ok = not-false _ (els .if1 .left) in
     making-less _ _ _ _ _ _ _ _ _ _ (head .loop .inv) (nxt .next-step .ensures) (has .has-moves .ensures) (cnt .vm-count .ensures .0) (pre .0) ok (pre .3) _ (put .put-moves .ensures .0) _ (put .put-moves .ensures .1) _ _ _ (fin .finish-step .ensures .0) (fin .finish-step .ensures .1) (c .moved .ensures)
 
--- src/steps.rt:121:5
 loop-again : tie.Need-loop-again Inv-loop μ-loop
 loop-again c =
     let fin = c .before .before .before .before in
@@ -132,18 +120,15 @@ loop-again c =
     let ok = not-false _ (els .if1 .left) in
     making-turn _ _ _ _ _ _ _ _ _ _ (head .loop .inv) (nxt .next-step .ensures) (has .has-moves .ensures) (cnt .vm-count .ensures .0) (pre .0) ok (pre .3) _ (put .put-moves .ensures .0) _ (put .put-moves .ensures .1) _ _ _ (fin .finish-step .ensures .0) (fin .finish-step .ensures .1) (c .moved .ensures)
 
--- src/steps.rt:136:15
 at-home-requires : tie.Need-at-home-requires Inv-loop μ-loop
 at-home-requires c κs = search needs
 
--- src/steps.rt:107:1
 same-length : tie.Need-same-length Inv-loop μ-loop
 same-length c =
     let head = c .before .before .before .before .before .before in
     let pre = head .before .before .before .before .before .pre in
     making-length _ _ _ _ _ _ _ (head .loop .inv) (pre .3)
 
--- src/steps.rt:107:1
 returns : tie.Need-returns Inv-loop μ-loop
 returns c =
     let then = c .before .before in

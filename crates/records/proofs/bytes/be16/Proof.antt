@@ -6,35 +6,27 @@ use Rattle.records.proofs.bytes.be16.Reads as reads
 use Rattle.records.proofs.bytes.be16.Lts as lts
 use Rattle.records.proofs.bytes.byte.Reads as byte-reads
 
--- src/bytes.rt:20:5
 byte-requires : tie.Need-byte-requires
 byte-requires c κs = search needs
 
--- src/bytes.rt:20:5
 cast-result : tie.Need-cast-result
 cast-result c = search needs
 
--- src/bytes.rt:20:5
 mul-result : tie.Need-mul-result
 mul-result c = search needs
 
--- src/bytes.rt:20:40
 add-byte : tie.Need-add-byte
 add-byte c = search needs
 
--- src/bytes.rt:20:32
 byte-requires-2 : tie.Need-byte-requires-2
 byte-requires-2 c κs = search needs
 
--- src/bytes.rt:20:32
 cast-result-2 : tie.Need-cast-result-2
 cast-result-2 c = search needs
 
--- src/bytes.rt:20:5
 add-result : tie.Need-add-result
 add-result c = search needs
 
--- src/bytes.rt:16:1
 returns : tie.Need-returns
 unfolding be16
 returns c = search needs

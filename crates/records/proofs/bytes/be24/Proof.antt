@@ -7,31 +7,24 @@ use Rattle.records.proofs.bytes.be24.Lts as lts
 use Rattle.records.proofs.bytes.be16.Reads as be16-reads
 use Rattle.records.proofs.bytes.byte.Reads as byte-reads
 
--- src/bytes.rt:28:5
 be16-requires : tie.Need-be16-requires
 be16-requires c κs = search needs
 
--- src/bytes.rt:28:5
 mul-result : tie.Need-mul-result
 mul-result c = search needs
 
--- src/bytes.rt:28:33
 add-byte : tie.Need-add-byte
 add-byte c = search needs
 
--- src/bytes.rt:28:25
 byte-requires : tie.Need-byte-requires
 byte-requires c κs = search needs
 
--- src/bytes.rt:28:25
 cast-result : tie.Need-cast-result
 cast-result c = search needs
 
--- src/bytes.rt:28:5
 add-result : tie.Need-add-result
 add-result c = search needs
 
--- src/bytes.rt:24:1
 returns : tie.Need-returns
 unfolding be24
 returns c = search needs

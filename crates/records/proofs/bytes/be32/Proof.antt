@@ -7,31 +7,24 @@ use Rattle.records.proofs.bytes.be32.Lts as lts
 use Rattle.records.proofs.bytes.be24.Reads as be24-reads
 use Rattle.records.proofs.bytes.byte.Reads as byte-reads
 
--- src/bytes.rt:36:5
 be24-requires : tie.Need-be24-requires
 be24-requires c κs = search needs
 
--- src/bytes.rt:36:5
 mul-result : tie.Need-mul-result
 mul-result c = search needs
 
--- src/bytes.rt:36:33
 add-byte : tie.Need-add-byte
 add-byte c = search needs
 
--- src/bytes.rt:36:25
 byte-requires : tie.Need-byte-requires
 byte-requires c κs = search needs
 
--- src/bytes.rt:36:25
 cast-result : tie.Need-cast-result
 cast-result c = search needs
 
--- src/bytes.rt:36:5
 add-result : tie.Need-add-result
 add-result c = search needs
 
--- src/bytes.rt:32:1
 returns : tie.Need-returns
 unfolding be32
 returns c = search needs

@@ -7,19 +7,15 @@ use Rattle.records.proofs.cluster.constraints_start.Reads as constraint
 use Rattle.records.proofs.header.constraints.Reads as constraints-reads
 use Rattle.records.proofs.walk.constraints_fill.Reads as constraints-fill-reads
 
--- src/cluster.rt:41:25
 constraints-start-requires : tie.Need-constraints-start-requires
 constraints-start-requires c κs = search needs
 
--- src/cluster.rt:41:47
 constraints-requires : tie.Need-constraints-requires
 constraints-requires c κs = search needs
 
--- src/cluster.rt:41:5
 constraints-fill-requires : tie.Need-constraints-fill-requires
 constraints-fill-requires c κs = search needs
 
--- src/cluster.rt:37:1
 returns : tie.Need-returns
 returns c = cc
 

@@ -13,51 +13,39 @@ use Rattle.records.proofs.cluster.vms_sound.Reads as vms-sound-reads
 use Rattle.records.proofs.header.counts_within.Reads as counts-within-reads
 use Rattle.records.proofs.header.length_wrong.Reads as length-wrong-reads
 
--- src/cluster.rt:65:9
 returns : tie.Need-returns
 returns c = search (needs, fault-short)
 
--- src/cluster.rt:67:8
 byte-requires : tie.Need-byte-requires
 byte-requires c κs = search needs
 
--- src/cluster.rt:68:9
 returns-2 : tie.Need-returns-2
 returns-2 c = search (needs, fault-version)
 
--- src/cluster.rt:70:8
 length-wrong-requires : tie.Need-length-wrong-requires
 length-wrong-requires c κs = search needs
 
--- src/cluster.rt:71:9
 returns-3 : tie.Need-returns-3
 returns-3 c = search (needs, fault-length)
 
--- src/cluster.rt:73:9
 counts-within-requires : tie.Need-counts-within-requires
 counts-within-requires c κs = search needs
 
--- src/cluster.rt:74:9
 returns-4 : tie.Need-returns-4
 returns-4 c = search (needs, fault-counts, not-true)
 
--- src/cluster.rt:76:9
 filled-requires : tie.Need-filled-requires
 filled-requires c κs = search needs
 
--- src/cluster.rt:77:9
 returns-5 : tie.Need-returns-5
 returns-5 c = search (needs, fault-fill, not-true, not-false)
 
--- src/cluster.rt:79:9
 vms-sound-requires : tie.Need-vms-sound-requires
 vms-sound-requires c κs = (omega arith, filled-rows _ (c .before .filled .result) (c .before .filled .ensures) (not-false _ (c .if5 .left)))
 
--- src/cluster.rt:80:9
 returns-6 : tie.Need-returns-6
 returns-6 c = search (needs, fault-row, not-true, not-false)
 
--- src/cluster.rt:82:9
 parts-sound-requires : tie.Need-parts-sound-requires
 parts-sound-requires c κs =
     let f = c .before .before .before in
@@ -67,11 +55,9 @@ parts-sound-requires c κs =
       counts-nodes-most _ (k .counts-within .result) (k .counts-within .ensures) (not-false _ (f .before .if4 .left)),
     )
 
--- src/cluster.rt:83:9
 returns-7 : tie.Need-returns-7
 returns-7 c = search (needs, fault-constraint, not-true, not-false)
 
--- src/cluster.rt:61:1
 returns-8 : tie.Need-returns-8
 returns-8 c = search (needs, fault-none, not-false)
 

@@ -10,27 +10,21 @@ use Rattle.records.proofs.header.nodes.Reads as nodes-reads
 use Rattle.records.proofs.header.vms.Reads as vms-reads
 use Rattle.records.proofs.walk.constraints_sound.Reads as constraints-sound-reads
 
--- src/cluster.rt:57:26
 constraints-start-requires : tie.Need-constraints-start-requires
 constraints-start-requires c κs = search needs
 
--- src/cluster.rt:57:48
 constraints-requires : tie.Need-constraints-requires
 constraints-requires c κs = search needs
 
--- src/cluster.rt:57:64
 vms-requires : tie.Need-vms-requires
 vms-requires c κs = search needs
 
--- src/cluster.rt:57:72
 nodes-requires : tie.Need-nodes-requires
 nodes-requires c κs = search needs
 
--- src/cluster.rt:57:5
 constraints-sound-requires : tie.Need-constraints-sound-requires
 constraints-sound-requires c κs = (cc, search needs)
 
--- src/cluster.rt:53:1
 returns : tie.Need-returns
 unfolding partsOf
 returns c = cc

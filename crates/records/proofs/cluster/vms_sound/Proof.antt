@@ -9,23 +9,18 @@ use Rattle.records.proofs.header.nodes.Reads as nodes-reads
 use Rattle.records.proofs.header.vms.Reads as vms-reads
 use Rattle.records.proofs.rows.rows_sound.Reads as rows-sound-reads
 
--- src/cluster.rt:49:19
 vms-start-requires : tie.Need-vms-start-requires
 vms-start-requires c κs = search needs
 
--- src/cluster.rt:49:33
 vms-requires : tie.Need-vms-requires
 vms-requires c κs = search needs
 
--- src/cluster.rt:49:41
 nodes-requires : tie.Need-nodes-requires
 nodes-requires c κs = search needs
 
--- src/cluster.rt:49:5
 rows-sound-requires : tie.Need-rows-sound-requires
 rows-sound-requires c κs = search needs
 
--- src/cluster.rt:45:1
 returns : tie.Need-returns
 unfolding roomOf
 returns c = cc

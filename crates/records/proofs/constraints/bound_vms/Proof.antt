@@ -6,23 +6,18 @@ use Rattle.records.proofs.constraints.bound_vms.Reads as reads
 use Rattle.records.proofs.constraints.bound_vms.Lts as lts
 use Rattle.records.proofs.constraints.others_at.Reads as others-at-reads
 
--- src/constraints.rt:122:9
 others-at-requires : tie.Need-others-at-requires
 others-at-requires c κs = search needs
 
--- src/constraints.rt:123:5
 sub-result : tie.Need-sub-result
 sub-result c = search needs
 
--- src/constraints.rt:123:5
 part-result-start : tie.Need-part-result-start
 part-result-start c = search needs
 
--- src/constraints.rt:123:5
 part-result-end : tie.Need-part-result-end
 part-result-end c = search needs
 
--- src/constraints.rt:118:1
 returns : tie.Need-returns
 returns c = search (needs, vms-part)
 

@@ -8,31 +8,24 @@ use Rattle.records.proofs.constraints.constraint_sound.Lts as lts
 use Rattle.records.proofs.constraints.others_sound.Reads as others-sound-reads
 use Rattle.records.proofs.lists.vm_list.Reads as vm-list-reads
 
--- src/constraints.rt:79:9
 returns : tie.Need-returns
 returns c = search (needs, constraint-short)
 
--- src/constraints.rt:81:9
 vm-list-requires : tie.Need-vm-list-requires
 vm-list-requires c κs = search needs
 
--- src/constraints.rt:83:22
 enum-known-found : tie.Need-enum-known-found
 enum-known-found c = search needs
 
--- src/constraints.rt:83:29
 others-sound-requires : tie.Need-others-sound-requires
 others-sound-requires c κs = search (needs, found-fits)
 
--- src/constraints.rt:84:24
 enum-told : tie.Need-enum-told
 enum-told c = search needs
 
--- src/constraints.rt:74:1
 returns-2 : tie.Need-returns-2
 returns-2 c = search (needs, constraint-others)
 
--- src/constraints.rt:74:1
 returns-3 : tie.Need-returns-3
 returns-3 c = search (needs, constraint-bad)
 

@@ -7,15 +7,12 @@ use Rattle.records.proofs.constraints.group_count.Lts as lts
 use Rattle.records.proofs.bytes.count8.Reads as count8-reads
 use Rattle.records.proofs.constraints.others_at.Reads as others-at-reads
 
--- src/constraints.rt:144:15
 others-at-requires : tie.Need-others-at-requires
 others-at-requires c κs = search needs
 
--- src/constraints.rt:144:5
 count8-requires : tie.Need-count8-requires
 count8-requires c κs = search (needs, groups-byte)
 
--- src/constraints.rt:140:1
 returns : tie.Need-returns
 returns c = search (needs, groups-count)
 

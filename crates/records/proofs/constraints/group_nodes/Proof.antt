@@ -6,31 +6,24 @@ use Rattle.records.proofs.constraints.group_nodes.Reads as reads
 use Rattle.records.proofs.constraints.group_nodes.Lts as lts
 use Rattle.records.proofs.bytes.count8.Reads as count8-reads
 
--- src/constraints.rt:160:17
 add-start : tie.Need-add-start
 add-start c = search needs
 
--- src/constraints.rt:161:23
 count8-requires : tie.Need-count8-requires
 count8-requires c κs = search needs
 
--- src/constraints.rt:161:15
 add-end : tie.Need-add-end
 add-end c = search needs
 
--- src/constraints.rt:162:5
 sub-result : tie.Need-sub-result
 sub-result c = search needs
 
--- src/constraints.rt:162:5
 part-result-start : tie.Need-part-result-start
 part-result-start c = search needs
 
--- src/constraints.rt:162:5
 part-result-end : tie.Need-part-result-end
 part-result-end c = search needs
 
--- src/constraints.rt:156:1
 returns : tie.Need-returns
 returns c = search (needs, group-part)
 

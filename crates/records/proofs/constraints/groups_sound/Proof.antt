@@ -7,39 +7,30 @@ use Rattle.records.proofs.constraints.groups_sound.Lts as lts
 use Rattle.records.proofs.bytes.count8.Reads as count8-reads
 use Rattle.records.proofs.groups.groups.Reads as groups-reads
 
--- src/constraints.rt:39:9
 returns : tie.Need-returns
 returns c = search (needs, groups-short)
 
--- src/constraints.rt:41:9
 count8-requires : tie.Need-count8-requires
 count8-requires c κs = search needs
 
--- src/constraints.rt:43:9
 returns-2 : tie.Need-returns-2
 returns-2 c = search (needs, groups-many)
 
--- src/constraints.rt:45:27
 add-groups : tie.Need-add-groups
 add-groups c = search needs
 
--- src/constraints.rt:45:9
 groups-requires : tie.Need-groups-requires
 groups-requires c κs = search needs
 
--- src/constraints.rt:47:22
 enum-known-found : tie.Need-enum-known-found
 enum-known-found c = search needs
 
--- src/constraints.rt:48:24
 enum-told : tie.Need-enum-told
 enum-told c = search needs
 
--- src/constraints.rt:34:1
 returns-3 : tie.Need-returns-3
 returns-3 c = search (needs, groups-fill)
 
--- src/constraints.rt:34:1
 returns-4 : tie.Need-returns-4
 returns-4 c = search (needs, groups-fail)
 

@@ -7,23 +7,18 @@ use Rattle.records.proofs.constraints.kind_at.Reads as reads
 use Rattle.records.proofs.constraints.kind_at.Lts as lts
 use Rattle.records.proofs.bytes.byte.Reads as byte-reads
 
--- src/constraints.rt:96:9
 byte-requires : tie.Need-byte-requires
 byte-requires c κs = omega (arith, others-within)
 
--- src/constraints.rt:98:9
 returns : tie.Need-returns
 returns c = search (needs, is-ban)
 
--- src/constraints.rt:101:9
 returns-2 : tie.Need-returns-2
 returns-2 c = search (needs, is-fence)
 
--- src/constraints.rt:104:9
 returns-3 : tie.Need-returns-3
 returns-3 c = search (needs, is-spread)
 
--- src/constraints.rt:92:1
 returns-4 : tie.Need-returns-4
 returns-4 c = search (needs, is-latency)
 

@@ -6,23 +6,18 @@ use Rattle.records.proofs.constraints.nodes_sound.Reads as reads
 use Rattle.records.proofs.constraints.nodes_sound.Lts as lts
 use Rattle.records.proofs.lists.node_list.Reads as node-list-reads
 
--- src/constraints.rt:26:9
 node-list-requires : tie.Need-node-list-requires
 node-list-requires c κs = search needs
 
--- src/constraints.rt:28:22
 enum-known-found : tie.Need-enum-known-found
 enum-known-found c = search needs
 
--- src/constraints.rt:29:24
 enum-told : tie.Need-enum-told
 enum-told c = search needs
 
--- src/constraints.rt:22:1
 returns : tie.Need-returns
 returns c = search (needs, nodes-ends)
 
--- src/constraints.rt:22:1
 returns-2 : tie.Need-returns-2
 returns-2 c = search (needs, nodes-bad)
 

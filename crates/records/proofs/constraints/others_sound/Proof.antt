@@ -8,39 +8,30 @@ use Rattle.records.proofs.bytes.byte.Reads as byte-reads
 use Rattle.records.proofs.constraints.groups_sound.Reads as groups-sound-reads
 use Rattle.records.proofs.constraints.nodes_sound.Reads as nodes-sound-reads
 
--- src/constraints.rt:57:9
 byte-requires : tie.Need-byte-requires
 byte-requires c κs = search needs
 
--- src/constraints.rt:59:9
 returns : tie.Need-returns
 returns c = search (needs, kind-spread)
 
--- src/constraints.rt:62:9
 groups-sound-requires : tie.Need-groups-sound-requires
 groups-sound-requires c κs = search needs
 
--- src/constraints.rt:62:9
 returns-2 : tie.Need-returns-2
 returns-2 c = search (needs, kind-latency)
 
--- src/constraints.rt:65:9
 nodes-sound-requires : tie.Need-nodes-sound-requires
 nodes-sound-requires c κs = search needs
 
--- src/constraints.rt:65:9
 returns-3 : tie.Need-returns-3
 returns-3 c = search (needs, kind-ban)
 
--- src/constraints.rt:68:9
 nodes-sound-requires-2 : tie.Need-nodes-sound-requires-2
 nodes-sound-requires-2 c κs = search needs
 
--- src/constraints.rt:68:9
 returns-4 : tie.Need-returns-4
 returns-4 c = search (needs, kind-fence)
 
--- src/constraints.rt:53:1
 returns-5 : tie.Need-returns-5
 returns-5 c = search (needs, kind-unknown)
 

@@ -16,39 +16,30 @@ Inv-loop p start count limit seen₀ at₀ left₀ seen at left = (at ≤ length
 abbrev μ-loop : tie.MeasureT-loop
 μ-loop p start count limit seen₀ at₀ left₀ seen at left = left
 
--- src/groups.rt:68:5
 loop-holds : tie.Need-loop-holds Inv-loop μ-loop
 loop-holds c = search needs
 
--- src/groups.rt:69:13
 group-requires : tie.Need-group-requires Inv-loop μ-loop
 group-requires c κs = search needs
 
--- src/groups.rt:72:17
 enum-told : tie.Need-enum-told Inv-loop μ-loop
 enum-told c = search needs
 
--- src/groups.rt:72:17
 returns : tie.Need-returns Inv-loop μ-loop
 returns c = search (needs, groups-bad)
 
--- src/groups.rt:74:26
 enum-known-found : tie.Need-enum-known-found Inv-loop μ-loop
 enum-known-found c = search needs
 
--- src/groups.rt:78:9
 sub-left : tie.Need-sub-left Inv-loop μ-loop
 sub-left c = search needs
 
--- src/groups.rt:68:5
 loop-less : tie.Need-loop-less Inv-loop μ-loop
 loop-less c = search needs
 
--- src/groups.rt:68:5
 loop-again : tie.Need-loop-again Inv-loop μ-loop
 loop-again c = search (needs, groups-fits, groups-more)
 
--- src/groups.rt:61:1
 returns-2 : tie.Need-returns-2 Inv-loop μ-loop
 returns-2 c = search (needs, groups-end)
 

@@ -16,31 +16,24 @@ Inv-loop nodes seen₀ i₀ seen i = (i ≤ length nodes) × (markedIn seen (dro
 abbrev μ-loop : tie.MeasureT-loop
 μ-loop nodes seen₀ i₀ seen i = length nodes - i
 
--- src/groups.rt:32:5
 loop-holds : tie.Need-loop-holds Inv-loop μ-loop
 loop-holds c = search needs
 
--- src/groups.rt:33:13
 count8-requires : tie.Need-count8-requires Inv-loop μ-loop
 count8-requires c κs = search needs
 
--- src/groups.rt:34:9
 element-write-seen : tie.Need-element-write-seen Inv-loop μ-loop
 element-write-seen c = search (needs, below-at)
 
--- src/groups.rt:35:9
 add-i : tie.Need-add-i Inv-loop μ-loop
 add-i c = search needs
 
--- src/groups.rt:32:5
 loop-less : tie.Need-loop-less Inv-loop μ-loop
 loop-less c = search needs
 
--- src/groups.rt:32:5
 loop-again : tie.Need-loop-again Inv-loop μ-loop
 loop-again c = search (needs, mark-more)
 
--- src/groups.rt:27:1
 returns : tie.Need-returns Inv-loop μ-loop
 returns c = search (needs, mark-end)
 

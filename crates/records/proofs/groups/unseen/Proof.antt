@@ -16,35 +16,27 @@ Inv-loop nodes seen i₀ i = (i ≤ length nodes) × (unseenIn seen (drop i node
 abbrev μ-loop : tie.MeasureT-loop
 μ-loop nodes seen i₀ i = length nodes - i
 
--- src/groups.rt:16:5
 loop-holds : tie.Need-loop-holds Inv-loop μ-loop
 loop-holds c = search needs
 
--- src/groups.rt:17:13
 count8-requires : tie.Need-count8-requires Inv-loop μ-loop
 count8-requires c κs = search needs
 
--- src/groups.rt:18:12
 element-copy-out-if1 : tie.Need-element-copy-out-if1 Inv-loop μ-loop
 element-copy-out-if1 c = search (needs, below-at)
 
--- src/groups.rt:19:13
 returns : tie.Need-returns Inv-loop μ-loop
 returns c = search (needs, unseen-not)
 
--- src/groups.rt:21:9
 add-i : tie.Need-add-i Inv-loop μ-loop
 add-i c = search needs
 
--- src/groups.rt:16:5
 loop-less : tie.Need-loop-less Inv-loop μ-loop
 loop-less c = search needs
 
--- src/groups.rt:16:5
 loop-again : tie.Need-loop-again Inv-loop μ-loop
 loop-again c = search (needs, unseen-more)
 
--- src/groups.rt:11:1
 returns-2 : tie.Need-returns-2 Inv-loop μ-loop
 returns-2 c = search (needs, unseen-end)
 

@@ -8,31 +8,24 @@ use Rattle.records.proofs.header.constraints.Reads as constraints-reads
 use Rattle.records.proofs.header.nodes.Reads as nodes-reads
 use Rattle.records.proofs.header.vms.Reads as vms-reads
 
--- src/header.rt:50:9
 nodes-requires : tie.Need-nodes-requires
 nodes-requires c κs = search needs
 
--- src/header.rt:52:9
 returns : tie.Need-returns
 returns c = search (needs, counts-none)
 
--- src/header.rt:55:9
 returns-2 : tie.Need-returns-2
 returns-2 c = search (needs, counts-nodes)
 
--- src/header.rt:57:9
 vms-requires : tie.Need-vms-requires
 vms-requires c κs = search needs
 
--- src/header.rt:59:9
 returns-3 : tie.Need-returns-3
 returns-3 c = search (needs, counts-vms)
 
--- src/header.rt:61:9
 constraints-requires : tie.Need-constraints-requires
 constraints-requires c κs = search needs
 
--- src/header.rt:46:1
 returns-4 : tie.Need-returns-4
 returns-4 c = search (needs, counts-rest)
 

@@ -6,19 +6,15 @@ use Rattle.records.proofs.header.length_wrong.Reads as reads
 use Rattle.records.proofs.header.length_wrong.Lts as lts
 use Rattle.records.proofs.bytes.be32.Reads as be32-reads
 
--- src/header.rt:38:18
 be32-requires : tie.Need-be32-requires
 be32-requires c κs = search needs
 
--- src/header.rt:38:18
 cast-stated : tie.Need-cast-stated
 cast-stated c = search needs
 
--- src/header.rt:40:9
 returns : tie.Need-returns
 returns c = search (needs, length-differs)
 
--- src/header.rt:34:1
 returns-2 : tie.Need-returns-2
 returns-2 c = search (needs, length-same)
 

@@ -6,43 +6,33 @@ use Rattle.records.proofs.lists.list_from.Reads as reads
 use Rattle.records.proofs.lists.list_from.Lts as lts
 use Rattle.records.proofs.lists.rising.Reads as rising-reads
 
--- src/lists.rt:43:9
 returns : tie.Need-returns
 returns c = search (needs, listed-past)
 
--- src/lists.rt:45:8
 sub-if2 : tie.Need-sub-if2
 sub-if2 c = search needs
 
--- src/lists.rt:46:9
 returns-2 : tie.Need-returns-2
 returns-2 c = search (needs, listed-long)
 
--- src/lists.rt:48:15
 add-end : tie.Need-add-end
 add-end c = search needs
 
--- src/lists.rt:49:15
 sub-rising : tie.Need-sub-rising
 sub-rising c = search needs
 
--- src/lists.rt:49:15
 part-rising-start : tie.Need-part-rising-start
 part-rising-start c = search needs
 
--- src/lists.rt:49:15
 part-rising-end : tie.Need-part-rising-end
 part-rising-end c = search needs
 
--- src/lists.rt:49:8
 rising-requires : tie.Need-rising-requires
 rising-requires c κs = search needs
 
--- src/lists.rt:39:1
 returns-3 : tie.Need-returns-3
 returns-3 c = search (needs, listed-ends)
 
--- src/lists.rt:39:1
 returns-4 : tie.Need-returns-4
 returns-4 c = search (needs, listed-bad)
 

@@ -7,27 +7,21 @@ use Rattle.records.proofs.lists.node_list.Lts as lts
 use Rattle.records.proofs.bytes.count8.Reads as count8-reads
 use Rattle.records.proofs.lists.list_from.Reads as list-from-reads
 
--- src/lists.rt:72:8
 sub-if1 : tie.Need-sub-if1
 sub-if1 c = search needs
 
--- src/lists.rt:73:9
 returns : tie.Need-returns
 returns c = search (needs, listed-short)
 
--- src/lists.rt:75:18
 add-list-from : tie.Need-add-list-from
 add-list-from c = search needs
 
--- src/lists.rt:75:26
 count8-requires : tie.Need-count8-requires
 count8-requires c κs = search needs
 
--- src/lists.rt:75:5
 list-from-requires : tie.Need-list-from-requires
 list-from-requires c κs = search needs
 
--- src/lists.rt:68:1
 returns-2 : tie.Need-returns-2
 returns-2 c = cc
 

@@ -17,39 +17,30 @@ Inv-loop l limit low₀ i₀ low i = (i ≤ length l) × (low ≤ 256) × (rises
 abbrev μ-loop : tie.MeasureT-loop
 μ-loop l limit low₀ i₀ low i = length l - i
 
--- src/lists.rt:24:5
 loop-holds : tie.Need-loop-holds Inv-loop μ-loop
 loop-holds c = search (needs, rises-start)
 
--- src/lists.rt:25:13
 count8-requires : tie.Need-count8-requires Inv-loop μ-loop
 count8-requires c κs = search needs
 
--- src/lists.rt:27:13
 returns : tie.Need-returns Inv-loop μ-loop
 returns c = search (needs, rises-low)
 
--- src/lists.rt:30:13
 returns-2 : tie.Need-returns-2 Inv-loop μ-loop
 returns-2 c = search (needs, rises-high)
 
--- src/lists.rt:32:15
 add-low : tie.Need-add-low Inv-loop μ-loop
 add-low c = search needs
 
--- src/lists.rt:33:9
 add-i : tie.Need-add-i Inv-loop μ-loop
 add-i c = search needs
 
--- src/lists.rt:24:5
 loop-less : tie.Need-loop-less Inv-loop μ-loop
 loop-less c = search needs
 
--- src/lists.rt:24:5
 loop-again : tie.Need-loop-again Inv-loop μ-loop
 loop-again c = search (needs, rises-more)
 
--- src/lists.rt:19:1
 returns-3 : tie.Need-returns-3 Inv-loop μ-loop
 returns-3 c = search (needs, rises-end)
 

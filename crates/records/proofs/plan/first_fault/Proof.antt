@@ -9,39 +9,30 @@ use Rattle.records.proofs.bytes.be32.Reads as be32-reads
 use Rattle.records.proofs.bytes.byte.Reads as byte-reads
 use Rattle.records.proofs.plan.shape_sound.Reads as shape-sound-reads
 
--- src/plan.rt:65:9
 returns : tie.Need-returns
 returns c = search (needs, plan-short)
 
--- src/plan.rt:67:8
 byte-requires : tie.Need-byte-requires
 byte-requires c κs = search needs
 
--- src/plan.rt:68:9
 returns-2 : tie.Need-returns-2
 returns-2 c = search (needs, plan-version)
 
--- src/plan.rt:70:18
 be32-requires : tie.Need-be32-requires
 be32-requires c κs = search needs
 
--- src/plan.rt:70:18
 cast-stated : tie.Need-cast-stated
 cast-stated c = search needs
 
--- src/plan.rt:72:9
 returns-3 : tie.Need-returns-3
 returns-3 c = search (needs, plan-length)
 
--- src/plan.rt:74:9
 shape-sound-requires : tie.Need-shape-sound-requires
 shape-sound-requires c κs = search needs
 
--- src/plan.rt:75:9
 returns-4 : tie.Need-returns-4
 returns-4 c = search (needs, plan-shape, not-true)
 
--- src/plan.rt:61:1
 returns-5 : tie.Need-returns-5
 returns-5 c = search (needs, plan-none, not-false)
 

@@ -6,27 +6,21 @@ use Rattle.records.proofs.plan.move_to.Reads as reads
 use Rattle.records.proofs.plan.move_to.Lts as lts
 use Rattle.records.proofs.bytes.byte.Reads as byte-reads
 
--- src/plan.rt:124:13
 add-byte : tie.Need-add-byte
 add-byte c = search needs
 
--- src/plan.rt:124:22
 mul-byte : tie.Need-mul-byte
 mul-byte c = search needs
 
--- src/plan.rt:124:13
 add-byte-2 : tie.Need-add-byte-2
 add-byte-2 c = search needs
 
--- src/plan.rt:124:13
 add-byte-3 : tie.Need-add-byte-3
 add-byte-3 c = search needs
 
--- src/plan.rt:124:5
 byte-requires : tie.Need-byte-requires
 byte-requires c κs = search needs
 
--- src/plan.rt:120:1
 returns : tie.Need-returns
 returns c = search (needs, move-to-is)
 

@@ -6,23 +6,18 @@ use Rattle.records.proofs.plan.move_vm.Reads as reads
 use Rattle.records.proofs.plan.move_vm.Lts as lts
 use Rattle.records.proofs.bytes.byte.Reads as byte-reads
 
--- src/plan.rt:116:13
 add-byte : tie.Need-add-byte
 add-byte c = search needs
 
--- src/plan.rt:116:22
 mul-byte : tie.Need-mul-byte
 mul-byte c = search needs
 
--- src/plan.rt:116:13
 add-byte-2 : tie.Need-add-byte-2
 add-byte-2 c = search needs
 
--- src/plan.rt:116:5
 byte-requires : tie.Need-byte-requires
 byte-requires c κs = search needs
 
--- src/plan.rt:112:1
 returns : tie.Need-returns
 returns c = search (needs, move-vm-is)
 

@@ -6,11 +6,9 @@ use Rattle.records.proofs.plan.plan_check.Reads as reads
 use Rattle.records.proofs.plan.plan_check.Lts as lts
 use Rattle.records.proofs.plan.first_fault.Reads as first-fault-reads
 
--- src/plan.rt:84:5
 first-fault-requires : tie.Need-first-fault-requires
 first-fault-requires c κs = search needs
 
--- src/plan.rt:81:1
 returns : tie.Need-returns
 returns c = record { is = search needs; bytes = λ i. omega (arith, c .before .shared-slice-known .given i) }
 

@@ -7,19 +7,15 @@ use Rattle.records.proofs.plan.shape_sound.Lts as lts
 use Rattle.records.proofs.bytes.count16.Reads as count16-reads
 use Rattle.records.proofs.plan.steps_sound.Reads as steps-sound-reads
 
--- src/plan.rt:53:9
 count16-requires : tie.Need-count16-requires
 count16-requires c κs = search needs
 
--- src/plan.rt:55:9
 returns : tie.Need-returns
 returns c = search (needs, shape-many)
 
--- src/plan.rt:57:5
 steps-sound-requires : tie.Need-steps-sound-requires
 steps-sound-requires c κs = search needs
 
--- src/plan.rt:49:1
 returns-2 : tie.Need-returns-2
 returns-2 c = search (needs, shape-steps)
 

@@ -7,11 +7,9 @@ use Rattle.records.proofs.plan.step_count.Reads as reads
 use Rattle.records.proofs.plan.step_count.Lts as lts
 use Rattle.records.proofs.bytes.count16.Reads as count16-reads
 
--- src/plan.rt:92:5
 count16-requires : tie.Need-count16-requires
 count16-requires c κs = omega (arith, plan-long)
 
--- src/plan.rt:88:1
 returns : tie.Need-returns
 returns c = omega (arith, steps-most)
 

@@ -16,79 +16,60 @@ Inv-loop s count at₀ left₀ moves₀ at left moves = (at ≤ length s) × (mo
 abbrev μ-loop : tie.MeasureT-loop
 μ-loop s count at₀ left₀ moves₀ at left moves = left
 
--- src/plan.rt:24:5
 loop-holds : tie.Need-loop-holds Inv-loop μ-loop
 loop-holds c = search needs
 
--- src/plan.rt:25:12
 sub-if1 : tie.Need-sub-if1 Inv-loop μ-loop
 sub-if1 c = search needs
 
--- src/plan.rt:26:13
 returns : tie.Need-returns Inv-loop μ-loop
 returns c = search (needs, steps-short)
 
--- src/plan.rt:28:13
 count16-requires : tie.Need-count16-requires Inv-loop μ-loop
 count16-requires c κs = search needs
 
--- src/plan.rt:30:13
 returns-2 : tie.Need-returns-2 Inv-loop μ-loop
 returns-2 c = search (needs, steps-none)
 
--- src/plan.rt:33:13
 returns-3 : tie.Need-returns-3 Inv-loop μ-loop
 returns-3 c = search (needs, steps-many)
 
--- src/plan.rt:35:12
 sub-if4 : tie.Need-sub-if4 Inv-loop μ-loop
 sub-if4 c = search needs
 
--- src/plan.rt:35:12
 sub-if4-2 : tie.Need-sub-if4-2 Inv-loop μ-loop
 sub-if4-2 c = search needs
 
--- src/plan.rt:35:31
 mul-if4 : tie.Need-mul-if4 Inv-loop μ-loop
 mul-if4 c = search needs
 
--- src/plan.rt:36:13
 returns-4 : tie.Need-returns-4 Inv-loop μ-loop
 returns-4 c = search (needs, steps-long)
 
--- src/plan.rt:38:14
 add-at : tie.Need-add-at Inv-loop μ-loop
 add-at c = search needs
 
--- src/plan.rt:38:23
 mul-at : tie.Need-mul-at Inv-loop μ-loop
 mul-at c = search needs
 
--- src/plan.rt:38:14
 add-at-2 : tie.Need-add-at-2 Inv-loop μ-loop
 add-at-2 c = search needs
 
--- src/plan.rt:39:9
 add-moves : tie.Need-add-moves Inv-loop μ-loop
 add-moves c = search needs
 
--- src/plan.rt:40:9
 sub-left : tie.Need-sub-left Inv-loop μ-loop
 sub-left c = search needs
 
--- src/plan.rt:24:5
 loop-less : tie.Need-loop-less Inv-loop μ-loop
 loop-less c = search needs
 
--- src/plan.rt:24:5
 loop-again : tie.Need-loop-again Inv-loop μ-loop
 loop-again c = search (needs, steps-more)
 
--- src/plan.rt:43:9
 returns-5 : tie.Need-returns-5 Inv-loop μ-loop
 returns-5 c = search (needs, steps-over)
 
--- src/plan.rt:17:1
 returns-6 : tie.Need-returns-6 Inv-loop μ-loop
 returns-6 c = search (needs, steps-end)
 

@@ -7,11 +7,9 @@ use Rattle.records.proofs.room.constraint_count.Reads as reads
 use Rattle.records.proofs.room.constraint_count.Lts as lts
 use Rattle.records.proofs.header.constraints.Reads as constraints-reads
 
--- src/room.rt:34:5
 constraints-requires : tie.Need-constraints-requires
 constraints-requires c κs = search (needs, whole-long)
 
--- src/room.rt:30:1
 returns : tie.Need-returns
 returns c = omega (arith, constraints-most)
 

@@ -6,11 +6,9 @@ use Rattle.records.proofs.room.first_constraint.Reads as reads
 use Rattle.records.proofs.room.first_constraint.Lts as lts
 use Rattle.records.proofs.cluster.constraints_start.Reads as constraints-start-reads
 
--- src/room.rt:42:5
 constraints-start-requires : tie.Need-constraints-start-requires
 constraints-start-requires c κs = search (needs, whole-long)
 
--- src/room.rt:38:1
 returns : tie.Need-returns
 returns c = search needs
 

@@ -7,11 +7,9 @@ use Rattle.records.proofs.room.node_count.Reads as reads
 use Rattle.records.proofs.room.node_count.Lts as lts
 use Rattle.records.proofs.header.nodes.Reads as nodes-reads
 
--- src/room.rt:20:5
 nodes-requires : tie.Need-nodes-requires
 nodes-requires c κs = search (needs, whole-long)
 
--- src/room.rt:16:1
 returns : tie.Need-returns
 returns c = omega (arith, nodes-least _ (c .before .before .pre), nodes-most _ (c .before .before .pre))
 

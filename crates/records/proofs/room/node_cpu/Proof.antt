@@ -7,19 +7,15 @@ use Rattle.records.proofs.room.node_cpu.Lts as lts
 use Rattle.records.proofs.bytes.be16.Reads as be16-reads
 use Rattle.records.proofs.room.node_row.Reads as node-row-reads
 
--- src/room.rt:72:13
 node-row-requires : tie.Need-node-row-requires
 node-row-requires c κs = search needs
 
--- src/room.rt:72:13
 add-be16 : tie.Need-add-be16
 add-be16 c = search needs
 
--- src/room.rt:72:5
 be16-requires : tie.Need-be16-requires
 be16-requires c κs = search needs
 
--- src/room.rt:68:1
 returns : tie.Need-returns
 returns c = search (needs, node-cpu-is)
 

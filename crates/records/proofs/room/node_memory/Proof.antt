@@ -7,15 +7,12 @@ use Rattle.records.proofs.room.node_memory.Lts as lts
 use Rattle.records.proofs.bytes.be24.Reads as be24-reads
 use Rattle.records.proofs.room.node_row.Reads as node-row-reads
 
--- src/room.rt:65:13
 node-row-requires : tie.Need-node-row-requires
 node-row-requires c κs = search needs
 
--- src/room.rt:65:5
 be24-requires : tie.Need-be24-requires
 be24-requires c κs = search needs
 
--- src/room.rt:61:1
 returns : tie.Need-returns
 returns c = search (needs, node-memory-is)
 

@@ -6,15 +6,12 @@ use Rattle.records.proofs.room.node_row.Tie as tie
 use Rattle.records.proofs.room.node_row.Reads as reads
 use Rattle.records.proofs.room.node_row.Lts as lts
 
--- src/room.rt:50:10
 mul-result : tie.Need-mul-result
 mul-result c = omega (arith, nodes-most)
 
--- src/room.rt:50:5
 add-result : tie.Need-add-result
 add-result c = omega (arith, nodes-most)
 
--- src/room.rt:46:1
 returns : tie.Need-returns
 returns c = omega (arith, whole-rows)
 

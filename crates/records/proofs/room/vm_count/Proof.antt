@@ -7,11 +7,9 @@ use Rattle.records.proofs.room.vm_count.Reads as reads
 use Rattle.records.proofs.room.vm_count.Lts as lts
 use Rattle.records.proofs.header.vms.Reads as vms-reads
 
--- src/room.rt:27:5
 vms-requires : tie.Need-vms-requires
 vms-requires c κs = search (needs, whole-long)
 
--- src/room.rt:23:1
 returns : tie.Need-returns
 returns c = omega (arith, vms-most)
 

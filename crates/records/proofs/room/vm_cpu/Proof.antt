@@ -7,19 +7,15 @@ use Rattle.records.proofs.room.vm_cpu.Lts as lts
 use Rattle.records.proofs.bytes.be16.Reads as be16-reads
 use Rattle.records.proofs.room.vm_row.Reads as vm-row-reads
 
--- src/room.rt:86:13
 vm-row-requires : tie.Need-vm-row-requires
 vm-row-requires c κs = search needs
 
--- src/room.rt:86:13
 add-be16 : tie.Need-add-be16
 add-be16 c = search needs
 
--- src/room.rt:86:5
 be16-requires : tie.Need-be16-requires
 be16-requires c κs = search needs
 
--- src/room.rt:82:1
 returns : tie.Need-returns
 returns c = search (needs, vm-cpu-is)
 

@@ -7,19 +7,15 @@ use Rattle.records.proofs.room.vm_current.Lts as lts
 use Rattle.records.proofs.bytes.byte.Reads as byte-reads
 use Rattle.records.proofs.room.vm_row.Reads as vm-row-reads
 
--- src/room.rt:94:13
 vm-row-requires : tie.Need-vm-row-requires
 vm-row-requires c κs = search needs
 
--- src/room.rt:94:13
 add-byte : tie.Need-add-byte
 add-byte c = search needs
 
--- src/room.rt:94:5
 byte-requires : tie.Need-byte-requires
 byte-requires c κs = search needs
 
--- src/room.rt:90:1
 returns : tie.Need-returns
 returns c = search (needs, vm-current-is, current-below)
 

@@ -7,15 +7,12 @@ use Rattle.records.proofs.room.vm_memory.Lts as lts
 use Rattle.records.proofs.bytes.be24.Reads as be24-reads
 use Rattle.records.proofs.room.vm_row.Reads as vm-row-reads
 
--- src/room.rt:79:13
 vm-row-requires : tie.Need-vm-row-requires
 vm-row-requires c κs = search needs
 
--- src/room.rt:79:5
 be24-requires : tie.Need-be24-requires
 be24-requires c κs = search needs
 
--- src/room.rt:75:1
 returns : tie.Need-returns
 returns c = search (needs, vm-memory-is, memory-least)
 

@@ -7,19 +7,15 @@ use Rattle.records.proofs.room.vm_row.Reads as reads
 use Rattle.records.proofs.room.vm_row.Lts as lts
 use Rattle.records.proofs.cluster.vms_start.Reads as vms-start-reads
 
--- src/room.rt:58:5
 vms-start-requires : tie.Need-vms-start-requires
 vms-start-requires c κs = search (needs, whole-long)
 
--- src/room.rt:58:20
 mul-result : tie.Need-mul-result
 mul-result c = omega (arith, vms-most)
 
--- src/room.rt:58:5
 add-result : tie.Need-add-result
 add-result c = omega (arith, vms-most)
 
--- src/room.rt:54:1
 returns : tie.Need-returns
 returns c = omega (arith, whole-rows)
 

@@ -7,35 +7,27 @@ use Rattle.records.proofs.rows.row_sound.Lts as lts
 use Rattle.records.proofs.bytes.be24.Reads as be24-reads
 use Rattle.records.proofs.bytes.count8.Reads as count8-reads
 
--- src/rows.rt:15:8
 be24-requires : tie.Need-be24-requires
 be24-requires c κs = search needs
 
--- src/rows.rt:16:9
 returns : tie.Need-returns
 returns c = search (needs, row-empty)
 
--- src/rows.rt:18:27
 add-count8 : tie.Need-add-count8
 add-count8 c = search needs
 
--- src/rows.rt:18:17
 count8-requires : tie.Need-count8-requires
 count8-requires c κs = search needs
 
--- src/rows.rt:19:9
 returns-2 : tie.Need-returns-2
 returns-2 c = search (needs, row-current)
 
--- src/rows.rt:21:28
 add-count8-2 : tie.Need-add-count8-2
 add-count8-2 c = search needs
 
--- src/rows.rt:21:9
 count8-requires-2 : tie.Need-count8-requires-2
 count8-requires-2 c κs = search needs
 
--- src/rows.rt:11:1
 returns-3 : tie.Need-returns-3
 returns-3 c = search (needs, row-target)
 

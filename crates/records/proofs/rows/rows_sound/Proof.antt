@@ -18,35 +18,27 @@ Inv-loop s start count nodes at₀ left₀ at left = (at + left * 7 ≤ length s
 abbrev μ-loop : tie.MeasureT-loop
 μ-loop s start count nodes at₀ left₀ at left = left
 
--- src/rows.rt:32:5
 loop-holds : tie.Need-loop-holds Inv-loop μ-loop
 loop-holds c = search needs
 
--- src/rows.rt:33:13
 row-sound-requires : tie.Need-row-sound-requires Inv-loop μ-loop
 row-sound-requires c κs = search needs
 
--- src/rows.rt:34:13
 returns : tie.Need-returns Inv-loop μ-loop
 returns c = search (needs, rows-not, not-true)
 
--- src/rows.rt:36:9
 add-at : tie.Need-add-at Inv-loop μ-loop
 add-at c = search needs
 
--- src/rows.rt:37:9
 sub-left : tie.Need-sub-left Inv-loop μ-loop
 sub-left c = search needs
 
--- src/rows.rt:32:5
 loop-less : tie.Need-loop-less Inv-loop μ-loop
 loop-less c = search needs
 
--- src/rows.rt:32:5
 loop-again : tie.Need-loop-again Inv-loop μ-loop
 loop-again c = search (needs, rows-more, not-false)
 
--- src/rows.rt:26:1
 returns-2 : tie.Need-returns-2 Inv-loop μ-loop
 returns-2 c = search (needs, rows-end)
 

@@ -17,59 +17,45 @@ Inv-loop s start count at₀ left₀ at left = (at ≤ length s) × (eqb (partsE
 abbrev μ-loop : tie.MeasureT-loop
 μ-loop s start count at₀ left₀ at left = left
 
--- src/walk.rt:16:9
 returns : tie.Need-returns Inv-loop μ-loop
 returns c = search (needs, fill-past)
 
--- src/walk.rt:20:5
 loop-holds : tie.Need-loop-holds Inv-loop μ-loop
 loop-holds c = search needs
 
--- src/walk.rt:21:12
 sub-if2 : tie.Need-sub-if2 Inv-loop μ-loop
 sub-if2 c = search needs
 
--- src/walk.rt:22:13
 returns-2 : tie.Need-returns-2 Inv-loop μ-loop
 returns-2 c = search (needs, fill-short)
 
--- src/walk.rt:24:13
 count16-requires : tie.Need-count16-requires Inv-loop μ-loop
 count16-requires c κs = search needs
 
--- src/walk.rt:25:12
 sub-if3 : tie.Need-sub-if3 Inv-loop μ-loop
 sub-if3 c = search needs
 
--- src/walk.rt:25:12
 sub-if3-2 : tie.Need-sub-if3-2 Inv-loop μ-loop
 sub-if3-2 c = search needs
 
--- src/walk.rt:26:13
 returns-3 : tie.Need-returns-3 Inv-loop μ-loop
 returns-3 c = search (needs, fill-long)
 
--- src/walk.rt:28:14
 add-at : tie.Need-add-at Inv-loop μ-loop
 add-at c = search needs
 
--- src/walk.rt:28:14
 add-at-2 : tie.Need-add-at-2 Inv-loop μ-loop
 add-at-2 c = search needs
 
--- src/walk.rt:29:9
 sub-left : tie.Need-sub-left Inv-loop μ-loop
 sub-left c = search needs
 
--- src/walk.rt:20:5
 loop-less : tie.Need-loop-less Inv-loop μ-loop
 loop-less c = search needs
 
--- src/walk.rt:20:5
 loop-again : tie.Need-loop-again Inv-loop μ-loop
 loop-again c = search (needs, fill-more)
 
--- src/walk.rt:12:1
 returns-4 : tie.Need-returns-4 Inv-loop μ-loop
 returns-4 c = search (needs, fill-end)
 

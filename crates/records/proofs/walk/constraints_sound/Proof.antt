@@ -19,39 +19,30 @@ Inv-loop s start count vms nodes at₀ left₀ at left = (partsEnd s at left ≡
 abbrev μ-loop : tie.MeasureT-loop
 μ-loop s start count vms nodes at₀ left₀ at left = left
 
--- src/walk.rt:50:5
 loop-holds : tie.Need-loop-holds Inv-loop μ-loop
 loop-holds c = search needs
 
--- src/walk.rt:51:13
 part-requires : tie.Need-part-requires Inv-loop μ-loop
 part-requires c κs = search (needs, parts-fit)
 
--- src/walk.rt:52:13
 constraint-sound-requires : tie.Need-constraint-sound-requires Inv-loop μ-loop
 constraint-sound-requires c κs = search needs
 
--- src/walk.rt:53:13
 returns : tie.Need-returns Inv-loop μ-loop
 returns c = search (needs, parts-not, not-true)
 
--- src/walk.rt:55:9
 add-at : tie.Need-add-at Inv-loop μ-loop
 add-at c = search (needs, parts-add)
 
--- src/walk.rt:56:9
 sub-left : tie.Need-sub-left Inv-loop μ-loop
 sub-left c = search needs
 
--- src/walk.rt:50:5
 loop-less : tie.Need-loop-less Inv-loop μ-loop
 loop-less c = search needs
 
--- src/walk.rt:50:5
 loop-again : tie.Need-loop-again Inv-loop μ-loop
 loop-again c = search (needs, parts-shorter, parts-more, not-false)
 
--- src/walk.rt:44:1
 returns-2 : tie.Need-returns-2 Inv-loop μ-loop
 returns-2 c = search (needs, parts-done)
 

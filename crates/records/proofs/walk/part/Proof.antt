@@ -6,31 +6,24 @@ use Rattle.records.proofs.walk.part.Reads as reads
 use Rattle.records.proofs.walk.part.Lts as lts
 use Rattle.records.proofs.bytes.count16.Reads as count16-reads
 
--- src/walk.rt:39:15
 add-end : tie.Need-add-end
 add-end c = search needs
 
--- src/walk.rt:39:24
 count16-requires : tie.Need-count16-requires
 count16-requires c κs = search needs
 
--- src/walk.rt:39:15
 add-end-2 : tie.Need-add-end-2
 add-end-2 c = search needs
 
--- src/walk.rt:40:5
 sub-result : tie.Need-sub-result
 sub-result c = search needs
 
--- src/walk.rt:40:5
 part-result-start : tie.Need-part-result-start
 part-result-start c = search needs
 
--- src/walk.rt:40:5
 part-result-end : tie.Need-part-result-end
 part-result-end c = search needs
 
--- src/walk.rt:35:1
 returns : tie.Need-returns
 returns c = search (needs, part-is)
 

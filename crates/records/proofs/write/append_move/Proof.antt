@@ -7,35 +7,27 @@ use Rattle.records.proofs.write.append_move.Tie as tie
 use Rattle.records.proofs.write.append_move.Reads as reads
 use Rattle.records.proofs.write.append_move.Lts as lts
 
--- src/write.rt:33:17
 add-place : tie.Need-add-place
 add-place c = search needs
 
--- src/write.rt:33:26
 mul-place : tie.Need-mul-place
 mul-place c = search needs
 
--- src/write.rt:33:17
 add-place-2 : tie.Need-add-place-2
 add-place-2 c = search needs
 
--- src/write.rt:34:5
 slice-write-out : tie.Need-slice-write-out
 slice-write-out c = search needs
 
--- src/write.rt:35:9
 add-out : tie.Need-add-out
 add-out c = search needs
 
--- src/write.rt:35:5
 slice-write-out-2 : tie.Need-slice-write-out-2
 slice-write-out-2 c = simp length-set (omega arith)
 
--- src/write.rt:29:1
 same-length : tie.Need-same-length
 same-length c = search needs
 
--- src/write.rt:29:1
 returns : tie.Need-returns
 returns c = search (needs, move-written)
 

@@ -9,23 +9,18 @@ use Rattle.records.proofs.write.finish_plan.Lts as lts
 use Rattle.records.proofs.write.put16.Reads as put16-reads
 use Rattle.records.proofs.write.put32.Reads as put32-reads
 
--- src/write.rt:52:5
 put16-requires : tie.Need-put16-requires
 put16-requires c κs = search needs
 
--- src/write.rt:53:5
 put32-requires : tie.Need-put32-requires
 put32-requires c κs = search needs
 
--- src/write.rt:54:5
 slice-write-out : tie.Need-slice-write-out
 slice-write-out c = search needs
 
--- src/write.rt:48:1
 same-length : tie.Need-same-length
 same-length c = simp length-set (omega arith)
 
--- src/write.rt:48:1
 returns : tie.Need-returns
 returns c = search (needs, header-written)
 

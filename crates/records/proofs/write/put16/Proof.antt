@@ -7,31 +7,24 @@ use Rattle.records.proofs.write.put16.Tie as tie
 use Rattle.records.proofs.write.put16.Reads as reads
 use Rattle.records.proofs.write.put16.Lts as lts
 
--- src/write.rt:13:15
 cast-out : tie.Need-cast-out
 cast-out c = search needs
 
--- src/write.rt:13:5
 slice-write-out : tie.Need-slice-write-out
 slice-write-out c = search needs
 
--- src/write.rt:14:19
 cast-out-2 : tie.Need-cast-out-2
 cast-out-2 c = search needs
 
--- src/write.rt:14:9
 add-out : tie.Need-add-out
 add-out c = search needs
 
--- src/write.rt:14:5
 slice-write-out-2 : tie.Need-slice-write-out-2
 slice-write-out-2 c = simp length-set (omega arith)
 
--- src/write.rt:9:1
 same-length : tie.Need-same-length
 same-length c = search needs
 
--- src/write.rt:9:1
 returns : tie.Need-returns
 returns c = search (needs, two-written)
 

@@ -7,55 +7,42 @@ use Rattle.records.proofs.write.put32.Tie as tie
 use Rattle.records.proofs.write.put32.Reads as reads
 use Rattle.records.proofs.write.put32.Lts as lts
 
--- src/write.rt:22:15
 cast-out : tie.Need-cast-out
 cast-out c = search needs
 
--- src/write.rt:22:5
 slice-write-out : tie.Need-slice-write-out
 slice-write-out c = search needs
 
--- src/write.rt:23:19
 cast-out-2 : tie.Need-cast-out-2
 cast-out-2 c = search needs
 
--- src/write.rt:23:9
 add-out : tie.Need-add-out
 add-out c = search needs
 
--- src/write.rt:23:5
 slice-write-out-2 : tie.Need-slice-write-out-2
 slice-write-out-2 c = simp length-set (omega arith)
 
--- src/write.rt:24:19
 cast-out-3 : tie.Need-cast-out-3
 cast-out-3 c = search needs
 
--- src/write.rt:24:9
 add-out-2 : tie.Need-add-out-2
 add-out-2 c = search needs
 
--- src/write.rt:24:5
 slice-write-out-3 : tie.Need-slice-write-out-3
 slice-write-out-3 c = simp length-set (omega arith)
 
--- src/write.rt:25:19
 cast-out-4 : tie.Need-cast-out-4
 cast-out-4 c = search needs
 
--- src/write.rt:25:9
 add-out-3 : tie.Need-add-out-3
 add-out-3 c = search needs
 
--- src/write.rt:25:5
 slice-write-out-4 : tie.Need-slice-write-out-4
 slice-write-out-4 c = simp length-set (omega arith)
 
--- src/write.rt:18:1
 same-length : tie.Need-same-length
 same-length c = search needs
 
--- src/write.rt:18:1
 returns : tie.Need-returns
 returns c = search (needs, four-written)
 

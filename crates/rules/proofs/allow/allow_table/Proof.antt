@@ -23,43 +23,33 @@ Inv-loop cluster table₀ at₀ left₀ table at left = Parts cluster at left ×
 abbrev μ-loop : tie.MeasureT-loop
 μ-loop cluster table₀ at₀ left₀ table at left = left
 
--- src/allow.rt:85:9
 first-constraint-requires : tie.Need-first-constraint-requires Inv-loop μ-loop
 first-constraint-requires c κs = search needs
 
--- src/allow.rt:86:9
 constraint-count-requires : tie.Need-constraint-count-requires Inv-loop μ-loop
 constraint-count-requires c κs = search needs
 
--- src/allow.rt:87:5
 loop-holds : tie.Need-loop-holds Inv-loop μ-loop
 loop-holds c = search (needs, walk-from, allow-from)
 
--- src/allow.rt:88:13
 part-requires : tie.Need-part-requires Inv-loop μ-loop
 part-requires c κs = search (needs, walk-within)
 
--- src/allow.rt:89:9
 apply-requires : tie.Need-apply-requires Inv-loop μ-loop
 apply-requires c κs = search (needs, walk-filled, walk-below)
 
--- src/allow.rt:90:9
 add-at : tie.Need-add-at Inv-loop μ-loop
 add-at c = search (needs, parts-add)
 
--- src/allow.rt:91:9
 sub-left : tie.Need-sub-left Inv-loop μ-loop
 sub-left c = search needs
 
--- src/allow.rt:87:5
 loop-less : tie.Need-loop-less Inv-loop μ-loop
 loop-less c = search needs
 
--- src/allow.rt:87:5
 loop-again : tie.Need-loop-again Inv-loop μ-loop
 loop-again c = search (needs, walk-next, allow-more)
 
--- src/allow.rt:80:1
 returns : tie.Need-returns Inv-loop μ-loop
 returns c = search (needs, allow-end)
 

@@ -10,47 +10,36 @@ use Rattle.records.proofs.named_nodes.Reads as named-nodes-reads
 use Rattle.rules.proofs.allow.keep_rows.Reads as keep-rows-reads
 use Rattle.rules.proofs.allow.stops.Reads as stops-reads
 
--- src/allow.rt:64:9
 kind-at-requires : tie.Need-kind-at-requires
 kind-at-requires c κs = search needs
 
--- src/allow.rt:67:30
 enum-told : tie.Need-enum-told
 enum-told c = search needs
 
--- src/allow.rt:67:30
 named-nodes-requires : tie.Need-named-nodes-requires
 named-nodes-requires c κs = search needs
 
--- src/allow.rt:67:24
 stops-requires : tie.Need-stops-requires
 stops-requires c κs = search (needs, below-same)
 
--- src/allow.rt:68:23
 bound-vms-requires : tie.Need-bound-vms-requires
 bound-vms-requires c κs = search needs
 
--- src/allow.rt:68:13
 keep-rows-requires : tie.Need-keep-rows-requires
 keep-rows-requires c κs = search needs
 
--- src/allow.rt:71:30
 enum-told-2 : tie.Need-enum-told-2
 enum-told-2 c = search needs
 
--- src/allow.rt:71:30
 named-nodes-requires-2 : tie.Need-named-nodes-requires-2
 named-nodes-requires-2 c κs = search needs
 
--- src/allow.rt:71:24
 stops-requires-2 : tie.Need-stops-requires-2
 stops-requires-2 c κs = search (needs, below-same)
 
--- src/allow.rt:72:23
 bound-vms-requires-2 : tie.Need-bound-vms-requires-2
 bound-vms-requires-2 c κs = search needs
 
--- src/allow.rt:72:13
 keep-rows-requires-2 : tie.Need-keep-rows-requires-2
 keep-rows-requires-2 c κs = search needs
 
@@ -60,19 +49,15 @@ enum-told-3 c = search needs
 enum-told-4 : tie.Need-enum-told-4
 enum-told-4 c = search needs
 
--- src/allow.rt:60:1
 returns : tie.Need-returns
 returns c = search (needs, apply-ban)
 
--- src/allow.rt:60:1
 returns-2 : tie.Need-returns-2
 returns-2 c = search (needs, apply-fence)
 
--- src/allow.rt:60:1
 returns-3 : tie.Need-returns-3
 returns-3 c = search (needs, apply-spread)
 
--- src/allow.rt:60:1
 returns-4 : tie.Need-returns-4
 returns-4 c = search (needs, apply-latency)
 

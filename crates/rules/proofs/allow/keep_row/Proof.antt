@@ -15,48 +15,37 @@ Inv-loop v stop table₀ d₀ table d = (d ≤ 64) × (table ≡ rowKept table�
 abbrev μ-loop : tie.MeasureT-loop
 μ-loop v stop table₀ d₀ table d = 64 - d
 
--- src/allow.rt:26:5
 loop-holds : tie.Need-loop-holds Inv-loop μ-loop
 unfolding rowKept
 loop-holds c = search needs
 
--- src/allow.rt:27:18
 mul-at : tie.Need-mul-at Inv-loop μ-loop
 mul-at c = search needs
 
--- src/allow.rt:27:18
 add-at : tie.Need-add-at Inv-loop μ-loop
 add-at c = search needs
 
--- src/allow.rt:28:26
 element-copy-out-kept : tie.Need-element-copy-out-kept Inv-loop μ-loop
 element-copy-out-kept c = search needs
 
--- src/allow.rt:28:35
 element-copy-out-kept-2 : tie.Need-element-copy-out-kept-2 Inv-loop μ-loop
 element-copy-out-kept-2 c = search needs
 
--- src/allow.rt:28:21
 kept-requires : tie.Need-kept-requires Inv-loop μ-loop
 kept-requires c κs = search needs
 
--- src/allow.rt:28:9
 element-write-table : tie.Need-element-write-table Inv-loop μ-loop
 element-write-table c = search needs
 
--- src/allow.rt:29:9
 add-d : tie.Need-add-d Inv-loop μ-loop
 add-d c = search needs
 
--- src/allow.rt:26:5
 loop-less : tie.Need-loop-less Inv-loop μ-loop
 loop-less c = search needs
 
--- src/allow.rt:26:5
 loop-again : tie.Need-loop-again Inv-loop μ-loop
 loop-again c = search (needs, row-more)
 
--- src/allow.rt:21:1
 returns : tie.Need-returns Inv-loop μ-loop
 returns c = search (needs, row-end)
 

@@ -17,31 +17,24 @@ Inv-loop vms stop table₀ i₀ table i = (i ≤ length vms) × (listKept table 
 abbrev μ-loop : tie.MeasureT-loop
 μ-loop vms stop table₀ i₀ table i = length vms - i
 
--- src/allow.rt:38:5
 loop-holds : tie.Need-loop-holds Inv-loop μ-loop
 loop-holds c = search needs
 
--- src/allow.rt:39:18
 entry-requires : tie.Need-entry-requires Inv-loop μ-loop
 entry-requires c κs = search needs
 
--- src/allow.rt:39:9
 keep-row-requires : tie.Need-keep-row-requires Inv-loop μ-loop
 keep-row-requires c κs = search needs
 
--- src/allow.rt:40:9
 add-i : tie.Need-add-i Inv-loop μ-loop
 add-i c = search needs
 
--- src/allow.rt:38:5
 loop-less : tie.Need-loop-less Inv-loop μ-loop
 loop-less c = search needs
 
--- src/allow.rt:38:5
 loop-again : tie.Need-loop-again Inv-loop μ-loop
 loop-again c = search (needs, rows-more)
 
--- src/allow.rt:34:1
 returns : tie.Need-returns Inv-loop μ-loop
 returns c = search (needs, rows-end)
 

@@ -5,11 +5,9 @@ use Rattle.rules.proofs.allow.kept.Tie as tie
 use Rattle.rules.proofs.allow.kept.Reads as reads
 use Rattle.rules.proofs.allow.kept.Lts as lts
 
--- src/allow.rt:14:1
 returns : tie.Need-returns
 returns c = search (needs, kept-old)
 
--- src/allow.rt:14:1
 returns-2 : tie.Need-returns-2
 returns-2 c = search (needs, kept-none)
 

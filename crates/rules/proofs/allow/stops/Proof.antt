@@ -17,31 +17,24 @@ Inv-loop nodes ground mark marks₀ i₀ marks i = (i ≤ length nodes) × (stop
 abbrev μ-loop : tie.MeasureT-loop
 μ-loop nodes ground mark marks₀ i₀ marks i = length nodes - i
 
--- src/allow.rt:51:5
 loop-holds : tie.Need-loop-holds Inv-loop μ-loop
 loop-holds c = search needs
 
--- src/allow.rt:52:13
 entry-requires : tie.Need-entry-requires Inv-loop μ-loop
 entry-requires c κs = search needs
 
--- src/allow.rt:53:9
 array-write-marks : tie.Need-array-write-marks Inv-loop μ-loop
 array-write-marks c = search (needs, below-at)
 
--- src/allow.rt:54:9
 add-i : tie.Need-add-i Inv-loop μ-loop
 add-i c = search needs
 
--- src/allow.rt:51:5
 loop-less : tie.Need-loop-less Inv-loop μ-loop
 loop-less c = search needs
 
--- src/allow.rt:51:5
 loop-again : tie.Need-loop-again Inv-loop μ-loop
 loop-again c = search (needs, stops-more)
 
--- src/allow.rt:45:1
 returns : tie.Need-returns Inv-loop μ-loop
 returns c = search (needs, stops-end)
 

@@ -23,7 +23,6 @@ abbrev cost-from-below : ℕ → In 2 cost-from-kinds.ps
 cost-from-below t =
     and 2 cost-from-kinds.ps (falls 2 cost-from-kinds.ps _<_ μ-cost-from t) cost-from.Pre
 
--- src/cost.rt:65:9
 cost-from-returns : (t : ℕ) → cost-from-lts.Need-returns (
   step-sum-reads.Asked,
   step-sum-reads.Learnt,
@@ -36,7 +35,6 @@ cost-from-returns : (t : ℕ) → cost-from-lts.Need-returns (
 ) (cost-from-at t) cost-from.Post
 cost-from-returns t c = search (needs, cost-none)
 
--- src/cost.rt:67:9
 cost-from-step-sum-requires : (t : ℕ) → cost-from-lts.Need-step-sum-requires (
   step-sum-reads.Asked,
   step-sum-reads.Learnt,
@@ -49,7 +47,6 @@ cost-from-step-sum-requires : (t : ℕ) → cost-from-lts.Need-step-sum-requires
 ) (cost-from-at t) cost-from.Post
 cost-from-step-sum-requires t c κs = search (needs, steps-in)
 
--- src/cost.rt:68:9
 cost-from-step-max-requires : (t : ℕ) → cost-from-lts.Need-step-max-requires (
   step-sum-reads.Asked,
   step-sum-reads.Learnt,
@@ -62,7 +59,6 @@ cost-from-step-max-requires : (t : ℕ) → cost-from-lts.Need-step-max-requires
 ) (cost-from-at t) cost-from.Post
 cost-from-step-max-requires t c κs = search (needs, steps-in)
 
--- src/cost.rt:69:41
 cost-from-step-end-requires : (t : ℕ) → cost-from-lts.Need-step-end-requires (
   step-sum-reads.Asked,
   step-sum-reads.Learnt,
@@ -75,7 +71,6 @@ cost-from-step-end-requires : (t : ℕ) → cost-from-lts.Need-step-end-requires
 ) (cost-from-at t) cost-from.Post
 cost-from-step-end-requires t c κs = search (needs, steps-in)
 
--- src/cost.rt:69:70
 cost-from-sub-cost-from : (t : ℕ) → cost-from-lts.Need-sub-cost-from (
   step-sum-reads.Asked,
   step-sum-reads.Learnt,
@@ -88,7 +83,6 @@ cost-from-sub-cost-from : (t : ℕ) → cost-from-lts.Need-sub-cost-from (
 ) (cost-from-at t) cost-from.Post
 cost-from-sub-cost-from t c = search needs
 
--- src/cost.rt:69:80
 cost-from-add-cost-from : (t : ℕ) → cost-from-lts.Need-add-cost-from (
   step-sum-reads.Asked,
   step-sum-reads.Learnt,
@@ -101,7 +95,6 @@ cost-from-add-cost-from : (t : ℕ) → cost-from-lts.Need-add-cost-from (
 ) (cost-from-at t) cost-from.Post
 cost-from-add-cost-from t c = search needs
 
--- src/cost.rt:69:9
 cost-from-cost-from-requires : (t : ℕ) → cost-from-lts.Need-cost-from-requires (
   step-sum-reads.Asked,
   step-sum-reads.Learnt,
@@ -114,7 +107,6 @@ cost-from-cost-from-requires : (t : ℕ) → cost-from-lts.Need-cost-from-requir
 ) (cost-from-at t) cost-from.Post
 cost-from-cost-from-requires t c κs = (omega arith, (search needs, search (needs, cost-next), omega arith))
 
--- src/cost.rt:70:5
 cost-from-add-result : (t : ℕ) → cost-from-lts.Need-add-result (
   step-sum-reads.Asked,
   step-sum-reads.Learnt,
@@ -127,7 +119,6 @@ cost-from-add-result : (t : ℕ) → cost-from-lts.Need-add-result (
 ) (cost-from-at t) cost-from.Post
 cost-from-add-result t c = search (needs, cost-fits)
 
--- src/cost.rt:60:1
 cost-from-returns-2 : (t : ℕ) → cost-from-lts.Need-returns-2 (
   step-sum-reads.Asked,
   step-sum-reads.Learnt,

@@ -7,23 +7,18 @@ use Rattle.rules.proofs.cost.memory_of.Lts as lts
 use Rattle.records.proofs.vm_count.Reads as vm-count-reads
 use Rattle.records.proofs.vm_memory.Reads as vm-memory-reads
 
--- src/cost.rt:18:12
 vm-count-requires : tie.Need-vm-count-requires
 vm-count-requires c κs = search needs
 
--- src/cost.rt:19:9
 vm-memory-requires : tie.Need-vm-memory-requires
 vm-memory-requires c κs = search needs
 
--- src/cost.rt:19:9
 cast-result : tie.Need-cast-result
 cast-result c = search needs
 
--- src/cost.rt:14:1
 returns : tie.Need-returns
 returns c = search needs
 
--- src/cost.rt:14:1
 returns-2 : tie.Need-returns-2
 returns-2 c = search (needs, memory-none)
 

@@ -7,15 +7,12 @@ use Rattle.rules.proofs.cost.plan_cost.Lts as lts
 use Rattle.records.proofs.step_count.Reads as step-count-reads
 use Rattle.rules.proofs.cost.cost_from.Reads as cost-from-reads
 
--- src/cost.rt:78:33
 step-count-requires : tie.Need-step-count-requires
 step-count-requires c κs = search needs
 
--- src/cost.rt:78:5
 cost-from-requires : tie.Need-cost-from-requires
 cost-from-requires c κs = search (needs, cost-start)
 
--- src/cost.rt:74:1
 returns : tie.Need-returns
 returns c = search (needs, cost-whole, cost-bound)
 

@@ -21,43 +21,33 @@ Inv-loop cluster plan at i₀ most₀ i most = (i ≤ moveCount plan at) × (mos
 abbrev μ-loop : tie.MeasureT-loop
 μ-loop cluster plan at i₀ most₀ i most = i
 
--- src/cost.rt:30:9
 move-count-requires : tie.Need-move-count-requires Inv-loop μ-loop
 move-count-requires c κs = search needs
 
--- src/cost.rt:32:5
 loop-holds : tie.Need-loop-holds Inv-loop μ-loop
 loop-holds c = search (needs, max-start)
 
--- src/cost.rt:33:9
 sub-i : tie.Need-sub-i Inv-loop μ-loop
 sub-i c = search needs
 
--- src/cost.rt:34:42
 move-vm-requires : tie.Need-move-vm-requires Inv-loop μ-loop
 move-vm-requires c κs = search needs
 
--- src/cost.rt:34:42
 cast-memory-of : tie.Need-cast-memory-of Inv-loop μ-loop
 cast-memory-of c = search needs
 
--- src/cost.rt:34:23
 memory-of-requires : tie.Need-memory-of-requires Inv-loop μ-loop
 memory-of-requires c κs = search needs
 
--- src/cost.rt:34:9
 larger-requires : tie.Need-larger-requires Inv-loop μ-loop
 larger-requires c κs = search needs
 
--- src/cost.rt:32:5
 loop-less : tie.Need-loop-less Inv-loop μ-loop
 loop-less c = search needs
 
--- src/cost.rt:32:5
 loop-again : tie.Need-loop-again Inv-loop μ-loop
 loop-again c = search (needs, max-more)
 
--- src/cost.rt:26:1
 returns : tie.Need-returns Inv-loop μ-loop
 returns c = search (needs, max-end)
 

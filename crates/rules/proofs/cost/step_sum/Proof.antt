@@ -20,47 +20,36 @@ Inv-loop cluster plan at before i₀ sum₀ i sum = (i ≤ moveCount plan at) ×
 abbrev μ-loop : tie.MeasureT-loop
 μ-loop cluster plan at before i₀ sum₀ i sum = i
 
--- src/cost.rt:50:9
 move-count-requires : tie.Need-move-count-requires Inv-loop μ-loop
 move-count-requires c κs = search needs
 
--- src/cost.rt:52:5
 loop-holds : tie.Need-loop-holds Inv-loop μ-loop
 loop-holds c = search (needs, sum-start)
 
--- src/cost.rt:53:9
 sub-i : tie.Need-sub-i Inv-loop μ-loop
 sub-i c = search needs
 
--- src/cost.rt:54:35
 move-vm-requires : tie.Need-move-vm-requires Inv-loop μ-loop
 move-vm-requires c κs = search needs
 
--- src/cost.rt:54:35
 cast-memory-of : tie.Need-cast-memory-of Inv-loop μ-loop
 cast-memory-of c = search needs
 
--- src/cost.rt:54:16
 memory-of-requires : tie.Need-memory-of-requires Inv-loop μ-loop
 memory-of-requires c κs = search needs
 
--- src/cost.rt:54:16
 add-sum : tie.Need-add-sum Inv-loop μ-loop
 add-sum c = search needs
 
--- src/cost.rt:54:9
 add-sum-2 : tie.Need-add-sum-2 Inv-loop μ-loop
 add-sum-2 c = search needs
 
--- src/cost.rt:52:5
 loop-less : tie.Need-loop-less Inv-loop μ-loop
 loop-less c = search needs
 
--- src/cost.rt:52:5
 loop-again : tie.Need-loop-again Inv-loop μ-loop
 loop-again c = search (needs, sum-more)
 
--- src/cost.rt:46:1
 returns : tie.Need-returns Inv-loop μ-loop
 returns c = search (needs, sum-end, sum-most)
 

@@ -19,43 +19,33 @@ Inv-loop plan at i₀ dests₀ i dests = (i ≤ moveCount plan at) × (dests ≡
 abbrev μ-loop : tie.MeasureT-loop
 μ-loop plan at i₀ dests₀ i dests = i
 
--- src/places.rt:62:9
 move-count-requires : tie.Need-move-count-requires Inv-loop μ-loop
 move-count-requires c κs = search needs
 
--- src/places.rt:64:5
 loop-holds : tie.Need-loop-holds Inv-loop μ-loop
 loop-holds c = search (needs, dests-start)
 
--- src/places.rt:65:9
 sub-i : tie.Need-sub-i Inv-loop μ-loop
 sub-i c = search needs
 
--- src/places.rt:66:17
 move-vm-requires : tie.Need-move-vm-requires Inv-loop μ-loop
 move-vm-requires c κs = search needs
 
--- src/places.rt:66:17
 cast-v : tie.Need-cast-v Inv-loop μ-loop
 cast-v c = search needs
 
--- src/places.rt:67:20
 move-to-requires : tie.Need-move-to-requires Inv-loop μ-loop
 move-to-requires c κs = search needs
 
--- src/places.rt:67:9
 array-write-dests : tie.Need-array-write-dests Inv-loop μ-loop
 array-write-dests c = search needs
 
--- src/places.rt:64:5
 loop-less : tie.Need-loop-less Inv-loop μ-loop
 loop-less c = search needs
 
--- src/places.rt:64:5
 loop-again : tie.Need-loop-again Inv-loop μ-loop
 loop-again c = search (needs, dests-more)
 
--- src/places.rt:58:1
 returns : tie.Need-returns Inv-loop μ-loop
 returns c = search (needs, dests-end)
 

@@ -19,43 +19,33 @@ Inv-loop plan at n next₀ i₀ next i = (i ≤ n) × (after next (drop i (stepA
 abbrev μ-loop : tie.MeasureT-loop
 μ-loop plan at n next₀ i₀ next i = n - i
 
--- src/places.rt:46:9
 move-count-requires : tie.Need-move-count-requires Inv-loop μ-loop
 move-count-requires c κs = search needs
 
--- src/places.rt:49:5
 loop-holds : tie.Need-loop-holds Inv-loop μ-loop
 loop-holds c = search needs
 
--- src/places.rt:50:17
 move-vm-requires : tie.Need-move-vm-requires Inv-loop μ-loop
 move-vm-requires c κs = search needs
 
--- src/places.rt:50:17
 cast-v : tie.Need-cast-v Inv-loop μ-loop
 cast-v c = search needs
 
--- src/places.rt:51:19
 move-to-requires : tie.Need-move-to-requires Inv-loop μ-loop
 move-to-requires c κs = search needs
 
--- src/places.rt:51:9
 array-write-next : tie.Need-array-write-next Inv-loop μ-loop
 array-write-next c = search needs
 
--- src/places.rt:52:9
 add-i : tie.Need-add-i Inv-loop μ-loop
 add-i c = search needs
 
--- src/places.rt:49:5
 loop-less : tie.Need-loop-less Inv-loop μ-loop
 loop-less c = search needs
 
--- src/places.rt:49:5
 loop-again : tie.Need-loop-again Inv-loop μ-loop
 loop-again c = search (needs, moved-more)
 
--- src/places.rt:42:1
 returns : tie.Need-returns Inv-loop μ-loop
 returns c = search (needs, moved-end)
 

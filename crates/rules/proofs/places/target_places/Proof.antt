@@ -17,35 +17,27 @@ Inv-loop cluster n places₀ v₀ places v = (v ≤ n) × Filling places (target
 abbrev μ-loop : tie.MeasureT-loop
 μ-loop cluster n places₀ v₀ places v = n - v
 
--- src/places.rt:31:9
 vm-count-requires : tie.Need-vm-count-requires Inv-loop μ-loop
 vm-count-requires c κs = search needs
 
--- src/places.rt:34:5
 loop-holds : tie.Need-loop-holds Inv-loop μ-loop
 loop-holds c = search (needs, filling-start)
 
--- src/places.rt:35:21
 vm-target-requires : tie.Need-vm-target-requires Inv-loop μ-loop
 vm-target-requires c κs = search needs
 
--- src/places.rt:35:9
 array-write-places : tie.Need-array-write-places Inv-loop μ-loop
 array-write-places c = search needs
 
--- src/places.rt:36:9
 add-v : tie.Need-add-v Inv-loop μ-loop
 add-v c = search needs
 
--- src/places.rt:34:5
 loop-less : tie.Need-loop-less Inv-loop μ-loop
 loop-less c = search needs
 
--- src/places.rt:34:5
 loop-again : tie.Need-loop-again Inv-loop μ-loop
 loop-again c = search (needs, target-more)
 
--- src/places.rt:27:1
 returns : tie.Need-returns Inv-loop μ-loop
 returns c = search (needs, target-end)
 

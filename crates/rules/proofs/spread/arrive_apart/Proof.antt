@@ -18,47 +18,36 @@ Inv-loop vms dests marks₀ i₀ marks i = (i ≤ length vms) × (goUnmet marks 
 abbrev μ-loop : tie.MeasureT-loop
 μ-loop vms dests marks₀ i₀ marks i = length vms - i
 
--- src/spread.rt:44:5
 loop-holds : tie.Need-loop-holds Inv-loop μ-loop
 loop-holds c = search needs
 
--- src/spread.rt:45:32
 entry-requires : tie.Need-entry-requires Inv-loop μ-loop
 entry-requires c κs = search needs
 
--- src/spread.rt:45:13
 node-at-requires : tie.Need-node-at-requires Inv-loop μ-loop
 node-at-requires c κs = search needs
 
--- src/spread.rt:46:12
 array-read-if1 : tie.Need-array-read-if1 Inv-loop μ-loop
 array-read-if1 c = search (needs, node-index)
 
--- src/spread.rt:47:13
 returns : tie.Need-returns Inv-loop μ-loop
 returns c = search (needs, unmet-not)
 
--- src/spread.rt:49:20
 mark-of-requires : tie.Need-mark-of-requires Inv-loop μ-loop
 mark-of-requires c κs = search needs
 
--- src/spread.rt:49:9
 array-write-marks : tie.Need-array-write-marks Inv-loop μ-loop
 array-write-marks c = search (needs, node-index)
 
--- src/spread.rt:50:9
 add-i : tie.Need-add-i Inv-loop μ-loop
 add-i c = search needs
 
--- src/spread.rt:44:5
 loop-less : tie.Need-loop-less Inv-loop μ-loop
 loop-less c = search needs
 
--- src/spread.rt:44:5
 loop-again : tie.Need-loop-again Inv-loop μ-loop
 loop-again c = search (needs, unmet-more)
 
--- src/spread.rt:38:1
 returns-2 : tie.Need-returns-2 Inv-loop μ-loop
 returns-2 c = search (needs, unmet-end)
 

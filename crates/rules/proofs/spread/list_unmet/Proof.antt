@@ -7,15 +7,12 @@ use Rattle.rules.proofs.spread.list_unmet.Lts as lts
 use Rattle.rules.proofs.spread.arrive_apart.Reads as arrive-apart-reads
 use Rattle.rules.proofs.spread.starts.Reads as starts-reads
 
--- src/spread.rt:60:23
 starts-requires : tie.Need-starts-requires
 starts-requires c κs = search needs
 
--- src/spread.rt:60:5
 arrive-apart-requires : tie.Need-arrive-apart-requires
 arrive-apart-requires c κs = search needs
 
--- src/spread.rt:56:1
 returns : tie.Need-returns
 unfolding listUnmet
 returns c = cc

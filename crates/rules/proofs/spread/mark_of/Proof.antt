@@ -5,11 +5,9 @@ use Rattle.rules.proofs.spread.mark_of.Tie as tie
 use Rattle.rules.proofs.spread.mark_of.Reads as reads
 use Rattle.rules.proofs.spread.mark_of.Lts as lts
 
--- src/spread.rt:16:1
 returns : tie.Need-returns
 returns c = search (needs, mark-one)
 
--- src/spread.rt:16:1
 returns-2 : tie.Need-returns-2
 returns-2 c = search (needs, mark-none)
 

@@ -26,47 +26,36 @@ Inv-loop cluster places dests at₀ left₀ at left = Parts cluster at left × (
 abbrev μ-loop : tie.MeasureT-loop
 μ-loop cluster places dests at₀ left₀ at left = left
 
--- src/spread.rt:74:9
 first-constraint-requires : tie.Need-first-constraint-requires Inv-loop μ-loop
 first-constraint-requires c κs = search needs
 
--- src/spread.rt:75:9
 constraint-count-requires : tie.Need-constraint-count-requires Inv-loop μ-loop
 constraint-count-requires c κs = search needs
 
--- src/spread.rt:76:5
 loop-holds : tie.Need-loop-holds Inv-loop μ-loop
 loop-holds c = search (needs, walk-from, spreads-start)
 
--- src/spread.rt:77:13
 part-requires : tie.Need-part-requires Inv-loop μ-loop
 part-requires c κs = search (needs, walk-within)
 
--- src/spread.rt:78:13
 part-unmet-requires : tie.Need-part-unmet-requires Inv-loop μ-loop
 part-unmet-requires c κs = search (needs, walk-filled)
 
--- src/spread.rt:79:13
 returns : tie.Need-returns Inv-loop μ-loop
 returns c = search (needs, spreads-not, not-true)
 
--- src/spread.rt:81:9
 add-at : tie.Need-add-at Inv-loop μ-loop
 add-at c = search (needs, parts-add)
 
--- src/spread.rt:82:9
 sub-left : tie.Need-sub-left Inv-loop μ-loop
 sub-left c = search needs
 
--- src/spread.rt:76:5
 loop-less : tie.Need-loop-less Inv-loop μ-loop
 loop-less c = search needs
 
--- src/spread.rt:76:5
 loop-again : tie.Need-loop-again Inv-loop μ-loop
 loop-again c = search (needs, walk-next, spreads-more, not-false)
 
--- src/spread.rt:70:1
 returns-2 : tie.Need-returns-2 Inv-loop μ-loop
 returns-2 c = search (needs, spreads-end)
 

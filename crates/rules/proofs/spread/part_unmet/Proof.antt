@@ -8,47 +8,36 @@ use Rattle.records.proofs.bound_vms.Reads as bound-vms-reads
 use Rattle.records.proofs.kind_at.Reads as kind-at-reads
 use Rattle.rules.proofs.spread.list_unmet.Reads as list-unmet-reads
 
--- src/spread.rt:60:9
 kind-at-requires : tie.Need-kind-at-requires
 kind-at-requires c κs = search needs
 
--- src/spread.rt:62:36
 enum-told : tie.Need-enum-told
 enum-told c = search needs
 
--- src/spread.rt:62:36
 bound-vms-requires : tie.Need-bound-vms-requires
 bound-vms-requires c κs = search needs
 
--- src/spread.rt:62:25
 list-unmet-requires : tie.Need-list-unmet-requires
 list-unmet-requires c κs = search needs
 
--- src/spread.rt:63:22
 enum-told-2 : tie.Need-enum-told-2
 enum-told-2 c = search needs
 
--- src/spread.rt:64:24
 enum-told-3 : tie.Need-enum-told-3
 enum-told-3 c = search needs
 
--- src/spread.rt:65:26
 enum-told-4 : tie.Need-enum-told-4
 enum-told-4 c = search needs
 
--- src/spread.rt:56:1
 returns : tie.Need-returns
 returns c = search (needs, part-spread)
 
--- src/spread.rt:56:1
 returns-2 : tie.Need-returns-2
 returns-2 c = search (needs, part-ban)
 
--- src/spread.rt:56:1
 returns-3 : tie.Need-returns-3
 returns-3 c = search (needs, part-fence)
 
--- src/spread.rt:56:1
 returns-4 : tie.Need-returns-4
 returns-4 c = search (needs, part-latency)
 

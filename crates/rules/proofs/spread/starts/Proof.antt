@@ -17,35 +17,27 @@ Inv-loop vms places marks₀ i₀ marks i = (i ≤ length vms) × (startMarks ma
 abbrev μ-loop : tie.MeasureT-loop
 μ-loop vms places marks₀ i₀ marks i = length vms - i
 
--- src/spread.rt:29:5
 loop-holds : tie.Need-loop-holds Inv-loop μ-loop
 loop-holds c = search needs
 
--- src/spread.rt:30:33
 entry-requires : tie.Need-entry-requires Inv-loop μ-loop
 entry-requires c κs = search needs
 
--- src/spread.rt:30:13
 node-at-requires : tie.Need-node-at-requires Inv-loop μ-loop
 node-at-requires c κs = search needs
 
--- src/spread.rt:31:9
 array-write-marks : tie.Need-array-write-marks Inv-loop μ-loop
 array-write-marks c = search (needs, node-index)
 
--- src/spread.rt:32:9
 add-i : tie.Need-add-i Inv-loop μ-loop
 add-i c = search needs
 
--- src/spread.rt:29:5
 loop-less : tie.Need-loop-less Inv-loop μ-loop
 loop-less c = search needs
 
--- src/spread.rt:29:5
 loop-again : tie.Need-loop-again Inv-loop μ-loop
 loop-again c = search (needs, starts-more)
 
--- src/spread.rt:23:1
 returns : tie.Need-returns Inv-loop μ-loop
 returns c = search (needs, starts-end)
 

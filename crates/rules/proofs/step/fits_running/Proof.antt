@@ -21,51 +21,39 @@ Inv-loop cluster plan at sums n i₀ i = (i ≤ n) × (fitsIn (roomOf cluster) s
 abbrev μ-loop : tie.MeasureT-loop
 μ-loop cluster plan at sums n i₀ i = n - i
 
--- src/step.rt:72:9
 move-count-requires : tie.Need-move-count-requires Inv-loop μ-loop
 move-count-requires c κs = search needs
 
--- src/step.rt:74:5
 loop-holds : tie.Need-loop-holds Inv-loop μ-loop
 loop-holds c = search needs
 
--- src/step.rt:75:17
 move-to-requires : tie.Need-move-to-requires Inv-loop μ-loop
 move-to-requires c κs = search needs
 
--- src/step.rt:75:17
 cast-d : tie.Need-cast-d Inv-loop μ-loop
 cast-d c = search needs
 
--- src/step.rt:76:17
 mul-t : tie.Need-mul-t Inv-loop μ-loop
 mul-t c = search (needs, aimed-offset)
 
--- src/step.rt:76:17
 array-copy-out-t : tie.Need-array-copy-out-t Inv-loop μ-loop
 array-copy-out-t c = search (needs, aimed-index)
 
--- src/step.rt:77:13
 within-node-requires : tie.Need-within-node-requires Inv-loop μ-loop
 within-node-requires c κs = search (needs, aimed-below)
 
--- src/step.rt:78:13
 returns : tie.Need-returns Inv-loop μ-loop
 returns c = search (needs, fits-not, not-true)
 
--- src/step.rt:80:9
 add-i : tie.Need-add-i Inv-loop μ-loop
 add-i c = search needs
 
--- src/step.rt:74:5
 loop-less : tie.Need-loop-less Inv-loop μ-loop
 loop-less c = search needs
 
--- src/step.rt:74:5
 loop-again : tie.Need-loop-again Inv-loop μ-loop
 loop-again c = search (needs, fits-more, not-false)
 
--- src/step.rt:68:1
 returns-2 : tie.Need-returns-2 Inv-loop μ-loop
 returns-2 c = search (needs, fits-end)
 

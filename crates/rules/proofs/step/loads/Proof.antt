@@ -19,83 +19,63 @@ Inv-loop cluster places dests sums₀ left₀ sums left = (left ≤ vmCount clus
 abbrev μ-loop : tie.MeasureT-loop
 μ-loop cluster places dests sums₀ left₀ sums left = left
 
--- src/step.rt:57:9
 vm-count-requires : tie.Need-vm-count-requires Inv-loop μ-loop
 vm-count-requires c κs = search needs
 
--- src/step.rt:58:5
 loop-holds : tie.Need-loop-holds Inv-loop μ-loop
 loop-holds c = search (needs, loaded-start)
 
--- src/step.rt:59:17
 sub-v : tie.Need-sub-v Inv-loop μ-loop
 sub-v c = search needs
 
--- src/step.rt:60:13
 need-of-requires : tie.Need-need-of-requires Inv-loop μ-loop
 need-of-requires c κs = search needs
 
--- src/step.rt:61:13
 node-at-requires : tie.Need-node-at-requires Inv-loop μ-loop
 node-at-requires c κs = search needs
 
--- src/step.rt:62:21
 mul-there : tie.Need-mul-there Inv-loop μ-loop
 mul-there c = search (needs, dest-offset)
 
--- src/step.rt:62:21
 array-copy-out-there : tie.Need-array-copy-out-there Inv-loop μ-loop
 array-copy-out-there c = search (needs, dest-index)
 
--- src/step.rt:63:19
 with-requires : tie.Need-with-requires Inv-loop μ-loop
 with-requires c κs = search (needs, light-memory, light-cpu)
 
--- src/step.rt:63:9
 mul-sums : tie.Need-mul-sums Inv-loop μ-loop
 mul-sums c = search (needs, dest-offset)
 
--- src/step.rt:63:9
 array-set-from-sums : tie.Need-array-set-from-sums Inv-loop μ-loop
 array-set-from-sums c = search (needs, dest-index)
 
--- src/step.rt:64:13
 node-at-requires-2 : tie.Need-node-at-requires-2 Inv-loop μ-loop
 node-at-requires-2 c κs = search needs
 
--- src/step.rt:65:20
 mul-here : tie.Need-mul-here Inv-loop μ-loop
 mul-here c = search (needs, place-offset)
 
--- src/step.rt:65:20
 array-copy-out-here : tie.Need-array-copy-out-here Inv-loop μ-loop
 array-copy-out-here c = search (needs, place-index)
 
--- src/step.rt:66:19
 with-requires-2 : tie.Need-with-requires-2 Inv-loop μ-loop
 with-requires-2 c κs = search (needs, second-memory, second-cpu)
 
--- src/step.rt:66:9
 mul-sums-2 : tie.Need-mul-sums-2 Inv-loop μ-loop
 mul-sums-2 c = search (needs, place-offset)
 
--- src/step.rt:66:9
 array-set-from-sums-2 : tie.Need-array-set-from-sums-2 Inv-loop μ-loop
 array-set-from-sums-2 c = search (needs, place-index)
 
--- src/step.rt:58:5
 loop-less : tie.Need-loop-less Inv-loop μ-loop
 loop-less c = search needs
 
--- src/step.rt:58:5
 loop-again : tie.Need-loop-again Inv-loop μ-loop
 loop-again c = (omega arith, search (needs, loaded-more))
 
--- src/step.rt:69:5
 array-set-from-sums-3 : tie.Need-array-set-from-sums-3 Inv-loop μ-loop
 array-set-from-sums-3 c = search needs
 
--- src/step.rt:52:1
 returns : tie.Need-returns Inv-loop μ-loop
 returns c = search (needs, loaded-end)
 

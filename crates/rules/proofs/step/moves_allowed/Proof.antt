@@ -20,59 +20,45 @@ Inv-loop cluster plan at table n i₀ i = (i ≤ n) × (permitted (roomOf cluste
 abbrev μ-loop : tie.MeasureT-loop
 μ-loop cluster plan at table n i₀ i = n - i
 
--- src/step.rt:94:9
 move-count-requires : tie.Need-move-count-requires Inv-loop μ-loop
 move-count-requires c κs = search needs
 
--- src/step.rt:96:5
 loop-holds : tie.Need-loop-holds Inv-loop μ-loop
 loop-holds c = search needs
 
--- src/step.rt:97:17
 move-vm-requires : tie.Need-move-vm-requires Inv-loop μ-loop
 move-vm-requires c κs = search needs
 
--- src/step.rt:97:17
 cast-v : tie.Need-cast-v Inv-loop μ-loop
 cast-v c = search needs
 
--- src/step.rt:98:17
 move-to-requires : tie.Need-move-to-requires Inv-loop μ-loop
 move-to-requires c κs = search needs
 
--- src/step.rt:98:17
 cast-d : tie.Need-cast-d Inv-loop μ-loop
 cast-d c = search needs
 
--- src/step.rt:99:18
 mul-if1 : tie.Need-mul-if1 Inv-loop μ-loop
 mul-if1 c = search needs
 
--- src/step.rt:99:18
 add-if1 : tie.Need-add-if1 Inv-loop μ-loop
 add-if1 c = search needs
 
--- src/step.rt:99:12
 element-copy-out-if1 : tie.Need-element-copy-out-if1 Inv-loop μ-loop
 element-copy-out-if1 c = search (needs, move-index)
 
--- src/step.rt:100:13
 returns : tie.Need-returns Inv-loop μ-loop
 returns c = search (needs, allowed-not)
 
--- src/step.rt:102:9
 add-i : tie.Need-add-i Inv-loop μ-loop
 add-i c = search needs
 
--- src/step.rt:96:5
 loop-less : tie.Need-loop-less Inv-loop μ-loop
 loop-less c = search needs
 
--- src/step.rt:96:5
 loop-again : tie.Need-loop-again Inv-loop μ-loop
 loop-again c = search (needs, allowed-more)
 
--- src/step.rt:90:1
 returns-2 : tie.Need-returns-2 Inv-loop μ-loop
 returns-2 c = search (needs, allowed-end)
 

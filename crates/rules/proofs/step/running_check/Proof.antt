@@ -10,31 +10,24 @@ use Rattle.rules.proofs.spread.mates_unmet.Reads as mates-unmet-reads
 use Rattle.rules.proofs.step.fits_running.Reads as fits-running-reads
 use Rattle.rules.proofs.step.loads.Reads as loads-reads
 
--- src/step.rt:112:17
 destinations-requires : tie.Need-destinations-requires
 destinations-requires c κs = search needs
 
--- src/step.rt:113:9
 loads-requires : tie.Need-loads-requires
 loads-requires c κs = search (needs, held-ready)
 
--- src/step.rt:114:9
 fits-running-requires : tie.Need-fits-running-requires
 fits-running-requires c κs = search (needs, held-aimed)
 
--- src/step.rt:115:9
 returns : tie.Need-returns
 returns c = search (needs, running-misfit, not-true)
 
--- src/step.rt:117:9
 mates-unmet-requires : tie.Need-mates-unmet-requires
 mates-unmet-requires c κs = search (needs, held-nodes, held-dests)
 
--- src/step.rt:118:9
 returns-2 : tie.Need-returns-2
 returns-2 c = search (needs, running-mate, not-true, not-false)
 
--- src/step.rt:108:1
 returns-3 : tie.Need-returns-3
 returns-3 c = search (needs, running-sound, not-false)
 

@@ -9,27 +9,21 @@ use Rattle.rules.proofs.step.moves_allowed.Reads as moves-allowed-reads
 use Rattle.rules.proofs.step.running_check.Reads as running-check-reads
 use Rattle.rules.proofs.step.well_named.Reads as well-named-reads
 
--- src/step.rt:128:9
 well-named-requires : tie.Need-well-named-requires
 well-named-requires c κs = search needs
 
--- src/step.rt:129:9
 returns : tie.Need-returns
 returns c = search (needs, step-misnamed, not-true)
 
--- src/step.rt:131:9
 moves-allowed-requires : tie.Need-moves-allowed-requires
 moves-allowed-requires c κs = search (needs, named-aims, not-false)
 
--- src/step.rt:132:9
 returns-2 : tie.Need-returns-2
 returns-2 c = search (needs, step-forbidden, not-true, not-false)
 
--- src/step.rt:134:5
 running-check-requires : tie.Need-running-check-requires
 running-check-requires c κs = search (needs, named-held, not-false)
 
--- src/step.rt:124:1
 returns-3 : tie.Need-returns-3
 returns-3 c = search (needs, step-running, not-false)
 

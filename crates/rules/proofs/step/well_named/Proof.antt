@@ -25,71 +25,54 @@ Inv-loop cluster plan at places vms nodes n least₀ i₀ least i = (i ≤ n) ×
 abbrev μ-loop : tie.MeasureT-loop
 μ-loop cluster plan at places vms nodes n least₀ i₀ least i = n - i
 
--- src/step.rt:19:9
 vm-count-requires : tie.Need-vm-count-requires Inv-loop μ-loop
 vm-count-requires c κs = search needs
 
--- src/step.rt:20:9
 node-count-requires : tie.Need-node-count-requires Inv-loop μ-loop
 node-count-requires c κs = search needs
 
--- src/step.rt:21:9
 move-count-requires : tie.Need-move-count-requires Inv-loop μ-loop
 move-count-requires c κs = search needs
 
--- src/step.rt:24:5
 loop-holds : tie.Need-loop-holds Inv-loop μ-loop
 loop-holds c = search needs
 
--- src/step.rt:25:17
 move-vm-requires : tie.Need-move-vm-requires Inv-loop μ-loop
 move-vm-requires c κs = search needs
 
--- src/step.rt:25:17
 cast-v : tie.Need-cast-v Inv-loop μ-loop
 cast-v c = search needs
 
--- src/step.rt:27:13
 returns : tie.Need-returns Inv-loop μ-loop
 returns c = search (needs, named-low)
 
--- src/step.rt:30:13
 returns-2 : tie.Need-returns-2 Inv-loop μ-loop
 returns-2 c = search (needs, named-past)
 
--- src/step.rt:32:17
 move-to-requires : tie.Need-move-to-requires Inv-loop μ-loop
 move-to-requires c κs = search needs
 
--- src/step.rt:32:17
 cast-d : tie.Need-cast-d Inv-loop μ-loop
 cast-d c = search needs
 
--- src/step.rt:34:13
 returns-3 : tie.Need-returns-3 Inv-loop μ-loop
 returns-3 c = search (needs, named-far)
 
--- src/step.rt:36:13
 node-at-requires : tie.Need-node-at-requires Inv-loop μ-loop
 node-at-requires c κs = search needs
 
--- src/step.rt:38:13
 returns-4 : tie.Need-returns-4 Inv-loop μ-loop
 returns-4 c = search (needs, named-stays)
 
--- src/step.rt:40:17
 add-least : tie.Need-add-least Inv-loop μ-loop
 add-least c = search needs
 
--- src/step.rt:41:9
 add-i : tie.Need-add-i Inv-loop μ-loop
 add-i c = search needs
 
--- src/step.rt:24:5
 loop-less : tie.Need-loop-less Inv-loop μ-loop
 loop-less c = search needs
 
--- src/step.rt:24:5
 loop-again : tie.Need-loop-again Inv-loop μ-loop
 loop-again c =
     let k3 = c .before .before in
@@ -108,7 +91,6 @@ loop-again c =
           (k2 .if2 .left) _ (c .before .node-at .ensures .0) (k3 .if3 .left) (c .if4 .left),
     )
 
--- src/step.rt:15:1
 returns-5 : tie.Need-returns-5 Inv-loop μ-loop
 returns-5 c = search (needs, named-end)
 

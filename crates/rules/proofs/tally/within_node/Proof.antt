@@ -7,27 +7,21 @@ use Rattle.rules.proofs.tally.within_node.Lts as lts
 use Rattle.records.proofs.node_cpu.Reads as node-cpu-reads
 use Rattle.records.proofs.node_memory.Reads as node-memory-reads
 
--- src/tally.rt:52:18
 node-memory-requires : tie.Need-node-memory-requires
 node-memory-requires c κs = search needs
 
--- src/tally.rt:52:18
 cast-memory : tie.Need-cast-memory
 cast-memory c = search needs
 
--- src/tally.rt:53:15
 node-cpu-requires : tie.Need-node-cpu-requires
 node-cpu-requires c κs = search needs
 
--- src/tally.rt:53:15
 cast-cpu : tie.Need-cast-cpu
 cast-cpu c = search needs
 
--- src/tally.rt:55:9
 returns : tie.Need-returns
 returns c = search (needs, within-memory)
 
--- src/tally.rt:48:1
 returns-2 : tie.Need-returns-2
 returns-2 c = search (needs, within-cpu)
 

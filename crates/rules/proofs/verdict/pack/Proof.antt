@@ -7,39 +7,30 @@ use Rattle.rules.proofs.verdict.pack.Lts as lts
 use Rattle.rules.proofs.faults.fault_number.Reads as fault-number-reads
 use Rattle.rules.proofs.faults.fault_step.Reads as fault-step-reads
 
--- src/verdict.rt:97:27
 enum-known-v : tie.Need-enum-known-v
 enum-known-v c = search needs
 
--- src/verdict.rt:98:26
 enum-known-v-2 : tie.Need-enum-known-v-2
 enum-known-v-2 c = search needs
 
--- src/verdict.rt:98:54
 fault-number-requires : tie.Need-fault-number-requires
 fault-number-requires c κs = search needs
 
--- src/verdict.rt:98:54
 mul-result : tie.Need-mul-result
 mul-result c = search needs
 
--- src/verdict.rt:98:32
 add-result : tie.Need-add-result
 add-result c = search needs
 
--- src/verdict.rt:98:80
 fault-step-requires : tie.Need-fault-step-requires
 fault-step-requires c κs = search needs
 
--- src/verdict.rt:98:32
 add-result-2 : tie.Need-add-result-2
 add-result-2 c = search (needs, pack-fits)
 
--- src/verdict.rt:92:1
 returns : tie.Need-returns
 returns c = search needs
 
--- src/verdict.rt:92:1
 returns-2 : tie.Need-returns-2
 returns-2 c = search (needs, pack-refused)
 

@@ -9,31 +9,24 @@ use Rattle.records.proofs.plan_check.Reads as plan-check-reads
 use Rattle.rules.proofs.allow.allow_table.Reads as allow-table-reads
 use Rattle.rules.proofs.verdict.steps_verdict.Reads as steps-verdict-reads
 
--- src/verdict.rt:58:9
 plan-check-requires : tie.Need-plan-check-requires
 plan-check-requires c κs = search needs
 
--- src/verdict.rt:60:28
 enum-known-found : tie.Need-enum-known-found
 enum-known-found c = search needs
 
--- src/verdict.rt:62:25
 enum-told : tie.Need-enum-told
 enum-told c = search needs
 
--- src/verdict.rt:62:25
 allow-table-requires : tie.Need-allow-table-requires
 allow-table-requires c κs = search needs
 
--- src/verdict.rt:63:13
 steps-verdict-requires : tie.Need-steps-verdict-requires
 steps-verdict-requires c κs = search (needs, plan-is-whole, table-allows)
 
--- src/verdict.rt:54:1
 returns : tie.Need-returns
 returns c = search (needs, plan-damaged)
 
--- src/verdict.rt:54:1
 returns-2 : tie.Need-returns-2
 returns-2 c = search (needs, plan-fine)
 

@@ -19,70 +19,54 @@ Inv-loop cluster plan table places₀ at₀ left₀ number₀ places at left num
 abbrev μ-loop : tie.MeasureT-loop
 μ-loop cluster plan table places₀ at₀ left₀ number₀ places at left number = left
 
--- src/verdict.rt:32:22
 current-places-requires : tie.Need-current-places-requires Inv-loop μ-loop
 current-places-requires c κs = search needs
 
--- src/verdict.rt:34:9
 step-count-requires : tie.Need-step-count-requires Inv-loop μ-loop
 step-count-requires c κs = search needs
 
--- src/verdict.rt:36:5
 loop-holds : tie.Need-loop-holds Inv-loop μ-loop
 loop-holds c = search (needs, walking-start)
 
--- src/verdict.rt:37:13
 step-check-requires : tie.Need-step-check-requires Inv-loop μ-loop
 step-check-requires c κs = search (needs, walking-fits)
 
--- src/verdict.rt:38:34
 enum-known-found : tie.Need-enum-known-found Inv-loop μ-loop
 enum-known-found c = search needs
 
--- src/verdict.rt:39:13
 returns : tie.Need-returns Inv-loop μ-loop
 returns c = search (needs, turn-faulty)
 
 enum-told : tie.Need-enum-told Inv-loop μ-loop
 enum-told c = search needs
 
--- src/verdict.rt:41:18
 moved-requires : tie.Need-moved-requires Inv-loop μ-loop
 moved-requires c κs = search (needs, walking-fits)
 
--- src/verdict.rt:42:9
 step-end-requires : tie.Need-step-end-requires Inv-loop μ-loop
 step-end-requires c κs = search (needs, walking-fits)
 
--- src/verdict.rt:43:9
 add-number : tie.Need-add-number Inv-loop μ-loop
 add-number c = search needs
 
--- src/verdict.rt:44:9
 sub-left : tie.Need-sub-left Inv-loop μ-loop
 sub-left c = search needs
 
--- src/verdict.rt:36:5
 loop-less : tie.Need-loop-less Inv-loop μ-loop
 loop-less c = search needs
 
--- src/verdict.rt:36:5
 loop-again : tie.Need-loop-again Inv-loop μ-loop
 loop-again c = search (needs, turn-sound)
 
--- src/verdict.rt:46:8
 at-home-requires : tie.Need-at-home-requires Inv-loop μ-loop
 at-home-requires c κs = search needs
 
--- src/verdict.rt:47:27
 plan-cost-requires : tie.Need-plan-cost-requires Inv-loop μ-loop
 plan-cost-requires c κs = search needs
 
--- src/verdict.rt:28:1
 returns-2 : tie.Need-returns-2 Inv-loop μ-loop
 returns-2 c = search (needs, end-home)
 
--- src/verdict.rt:28:1
 returns-3 : tie.Need-returns-3 Inv-loop μ-loop
 returns-3 c = search (needs, end-away)
 

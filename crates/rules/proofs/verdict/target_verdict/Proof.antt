@@ -7,27 +7,21 @@ use Rattle.rules.proofs.verdict.target_verdict.Lts as lts
 use Rattle.rules.proofs.wanted.target_check.Reads as target-check-reads
 use Rattle.rules.proofs.verdict.plan_verdict.Reads as plan-verdict-reads
 
--- src/verdict.rt:73:9
 target-check-requires : tie.Need-target-check-requires
 target-check-requires c κs = search needs
 
--- src/verdict.rt:75:34
 enum-known-found : tie.Need-enum-known-found
 enum-known-found c = search needs
 
--- src/verdict.rt:76:35
 enum-told : tie.Need-enum-told
 enum-told c = search needs
 
--- src/verdict.rt:76:35
 plan-verdict-requires : tie.Need-plan-verdict-requires
 plan-verdict-requires c κs = search needs
 
--- src/verdict.rt:69:1
 returns : tie.Need-returns
 returns c = search (needs, target-fault)
 
--- src/verdict.rt:69:1
 returns-2 : tie.Need-returns-2
 returns-2 c = search (needs, target-fine)
 

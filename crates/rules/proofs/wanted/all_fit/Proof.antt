@@ -18,43 +18,33 @@ Inv-loop cluster sums n d₀ d = (d ≤ n) × (fitsUpTo (roomOf cluster) sums d 
 abbrev μ-loop : tie.MeasureT-loop
 μ-loop cluster sums n d₀ d = n - d
 
--- src/wanted.rt:30:9
 node-count-requires : tie.Need-node-count-requires Inv-loop μ-loop
 node-count-requires c κs = search needs
 
--- src/wanted.rt:32:5
 loop-holds : tie.Need-loop-holds Inv-loop μ-loop
 loop-holds c = search (needs, fit-start)
 
--- src/wanted.rt:33:17
 mul-t : tie.Need-mul-t Inv-loop μ-loop
 mul-t c = search needs
 
--- src/wanted.rt:33:17
 array-copy-out-t : tie.Need-array-copy-out-t Inv-loop μ-loop
 array-copy-out-t c = search needs
 
--- src/wanted.rt:34:13
 within-node-requires : tie.Need-within-node-requires Inv-loop μ-loop
 within-node-requires c κs = search needs
 
--- src/wanted.rt:35:13
 returns : tie.Need-returns Inv-loop μ-loop
 returns c = search (needs, fit-not, not-true)
 
--- src/wanted.rt:37:9
 add-d : tie.Need-add-d Inv-loop μ-loop
 add-d c = search needs
 
--- src/wanted.rt:32:5
 loop-less : tie.Need-loop-less Inv-loop μ-loop
 loop-less c = search needs
 
--- src/wanted.rt:32:5
 loop-again : tie.Need-loop-again Inv-loop μ-loop
 loop-again c = search (needs, fit-more, not-false)
 
--- src/wanted.rt:26:1
 returns-2 : tie.Need-returns-2 Inv-loop μ-loop
 returns-2 c = search (needs, fit-end)
 

@@ -26,47 +26,36 @@ Inv-loop cluster places at₀ left₀ at left = Parts cluster at left × (all (k
 abbrev μ-loop : tie.MeasureT-loop
 μ-loop cluster places at₀ left₀ at left = left
 
--- src/wanted.rt:118:9
 first-constraint-requires : tie.Need-first-constraint-requires Inv-loop μ-loop
 first-constraint-requires c κs = search needs
 
--- src/wanted.rt:119:9
 constraint-count-requires : tie.Need-constraint-count-requires Inv-loop μ-loop
 constraint-count-requires c κs = search needs
 
--- src/wanted.rt:120:5
 loop-holds : tie.Need-loop-holds Inv-loop μ-loop
 loop-holds c = search (needs, walk-from, kept-start)
 
--- src/wanted.rt:121:13
 part-requires : tie.Need-part-requires Inv-loop μ-loop
 part-requires c κs = search (needs, walk-within)
 
--- src/wanted.rt:122:13
 part-kept-requires : tie.Need-part-kept-requires Inv-loop μ-loop
 part-kept-requires c κs = search (needs, walk-formed)
 
--- src/wanted.rt:123:13
 returns : tie.Need-returns Inv-loop μ-loop
 returns c = search (needs, kept-not, not-true)
 
--- src/wanted.rt:125:9
 add-at : tie.Need-add-at Inv-loop μ-loop
 add-at c = search (needs, parts-add)
 
--- src/wanted.rt:126:9
 sub-left : tie.Need-sub-left Inv-loop μ-loop
 sub-left c = search needs
 
--- src/wanted.rt:120:5
 loop-less : tie.Need-loop-less Inv-loop μ-loop
 loop-less c = search needs
 
--- src/wanted.rt:120:5
 loop-again : tie.Need-loop-again Inv-loop μ-loop
 loop-again c = search (needs, walk-next, kept-more, not-false)
 
--- src/wanted.rt:114:1
 returns-2 : tie.Need-returns-2 Inv-loop μ-loop
 returns-2 c = search (needs, kept-done)
 

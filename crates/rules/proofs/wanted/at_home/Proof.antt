@@ -19,43 +19,33 @@ Inv-loop cluster places n v₀ v = (v ≤ n) × (homeFrom (roomOf cluster) (held
 abbrev μ-loop : tie.MeasureT-loop
 μ-loop cluster places n v₀ v = n - v
 
--- src/wanted.rt:151:9
 vm-count-requires : tie.Need-vm-count-requires Inv-loop μ-loop
 vm-count-requires c κs = search needs
 
--- src/wanted.rt:153:5
 loop-holds : tie.Need-loop-holds Inv-loop μ-loop
 loop-holds c = search (needs, home-start)
 
--- src/wanted.rt:154:13
 node-at-requires : tie.Need-node-at-requires Inv-loop μ-loop
 node-at-requires c κs = search needs
 
--- src/wanted.rt:155:17
 vm-target-requires : tie.Need-vm-target-requires Inv-loop μ-loop
 vm-target-requires c κs = search needs
 
--- src/wanted.rt:155:17
 cast-t : tie.Need-cast-t Inv-loop μ-loop
 cast-t c = search needs
 
--- src/wanted.rt:157:13
 returns : tie.Need-returns Inv-loop μ-loop
 returns c = search (needs, home-not)
 
--- src/wanted.rt:159:9
 add-v : tie.Need-add-v Inv-loop μ-loop
 add-v c = search needs
 
--- src/wanted.rt:153:5
 loop-less : tie.Need-loop-less Inv-loop μ-loop
 loop-less c = search needs
 
--- src/wanted.rt:153:5
 loop-again : tie.Need-loop-again Inv-loop μ-loop
 loop-again c = search (needs, home-more)
 
--- src/wanted.rt:147:1
 returns-2 : tie.Need-returns-2 Inv-loop μ-loop
 returns-2 c = search (needs, home-end)
 

@@ -21,55 +21,42 @@ Inv-loop p vms places at₀ left₀ at left = Grouping p at left × (some (group
 abbrev μ-loop : tie.MeasureT-loop
 μ-loop p vms places at₀ left₀ at left = left
 
--- src/wanted.rt:73:9
 first-group-requires : tie.Need-first-group-requires Inv-loop μ-loop
 first-group-requires c κs = search needs
 
--- src/wanted.rt:74:9
 group-count-requires : tie.Need-group-count-requires Inv-loop μ-loop
 group-count-requires c κs = search needs
 
--- src/wanted.rt:75:5
 loop-holds : tie.Need-loop-holds Inv-loop μ-loop
 loop-holds c = search (needs, grouping-start, groups-start)
 
--- src/wanted.rt:76:13
 group-nodes-requires : tie.Need-group-nodes-requires Inv-loop μ-loop
 group-nodes-requires c κs = search (needs, group-fits)
 
--- src/wanted.rt:77:23
 stops-requires : tie.Need-stops-requires Inv-loop μ-loop
 stops-requires c κs = search (needs, group-below)
 
--- src/wanted.rt:78:12
 list-clear-requires : tie.Need-list-clear-requires Inv-loop μ-loop
 list-clear-requires c κs = search needs
 
--- src/wanted.rt:79:13
 returns : tie.Need-returns Inv-loop μ-loop
 returns c = search (needs, groups-found)
 
--- src/wanted.rt:81:14
 add-at : tie.Need-add-at Inv-loop μ-loop
 add-at c = search (needs, group-add-one)
 
--- src/wanted.rt:81:14
 add-at-2 : tie.Need-add-at-2 Inv-loop μ-loop
 add-at-2 c = search (needs, group-add)
 
--- src/wanted.rt:82:9
 sub-left : tie.Need-sub-left Inv-loop μ-loop
 sub-left c = search needs
 
--- src/wanted.rt:75:5
 loop-less : tie.Need-loop-less Inv-loop μ-loop
 loop-less c = search needs
 
--- src/wanted.rt:75:5
 loop-again : tie.Need-loop-again Inv-loop μ-loop
 loop-again c = search (needs, grouping-next, groups-more, group-next)
 
--- src/wanted.rt:69:1
 returns-2 : tie.Need-returns-2 Inv-loop μ-loop
 returns-2 c = search (needs, groups-none)
 

@@ -17,39 +17,30 @@ Inv-loop vms stop places i₀ i = (i ≤ length vms) × (clearOf stop places (dr
 abbrev μ-loop : tie.MeasureT-loop
 μ-loop vms stop places i₀ i = length vms - i
 
--- src/wanted.rt:58:5
 loop-holds : tie.Need-loop-holds Inv-loop μ-loop
 loop-holds c = search needs
 
--- src/wanted.rt:59:33
 entry-requires : tie.Need-entry-requires Inv-loop μ-loop
 entry-requires c κs = search needs
 
--- src/wanted.rt:59:13
 node-at-requires : tie.Need-node-at-requires Inv-loop μ-loop
 node-at-requires c κs = search needs
 
--- src/wanted.rt:60:12
 element-copy-out-if1 : tie.Need-element-copy-out-if1 Inv-loop μ-loop
 element-copy-out-if1 c = search (needs, low-index)
 
--- src/wanted.rt:61:13
 returns : tie.Need-returns Inv-loop μ-loop
 returns c = search (needs, clear-not)
 
--- src/wanted.rt:63:9
 add-i : tie.Need-add-i Inv-loop μ-loop
 add-i c = search needs
 
--- src/wanted.rt:58:5
 loop-less : tie.Need-loop-less Inv-loop μ-loop
 loop-less c = search needs
 
--- src/wanted.rt:58:5
 loop-again : tie.Need-loop-again Inv-loop μ-loop
 loop-again c = search (needs, clear-more)
 
--- src/wanted.rt:53:1
 returns-2 : tie.Need-returns-2 Inv-loop μ-loop
 returns-2 c = search (needs, clear-end)
 

@@ -13,79 +13,60 @@ use Rattle.rules.proofs.spread.arrive_apart.Reads as arrive-apart-reads
 use Rattle.rules.proofs.wanted.groups_hold.Reads as groups-hold-reads
 use Rattle.rules.proofs.wanted.list_clear.Reads as list-clear-reads
 
--- src/wanted.rt:92:9
 bound-vms-requires : tie.Need-bound-vms-requires
 bound-vms-requires c κs = search needs
 
--- src/wanted.rt:93:9
 kind-at-requires : tie.Need-kind-at-requires
 kind-at-requires c κs = search needs
 
--- src/wanted.rt:96:30
 enum-told : tie.Need-enum-told
 enum-told c = search needs
 
--- src/wanted.rt:96:30
 named-nodes-requires : tie.Need-named-nodes-requires
 named-nodes-requires c κs = search needs
 
--- src/wanted.rt:96:24
 stops-requires : tie.Need-stops-requires
 stops-requires c κs = search (needs, below-same)
 
--- src/wanted.rt:97:13
 list-clear-requires : tie.Need-list-clear-requires
 list-clear-requires c κs = search needs
 
--- src/wanted.rt:100:30
 enum-told-2 : tie.Need-enum-told-2
 enum-told-2 c = search needs
 
--- src/wanted.rt:100:30
 named-nodes-requires-2 : tie.Need-named-nodes-requires-2
 named-nodes-requires-2 c κs = search needs
 
--- src/wanted.rt:100:24
 stops-requires-2 : tie.Need-stops-requires-2
 stops-requires-2 c κs = search (needs, below-same)
 
--- src/wanted.rt:101:13
 list-clear-requires-2 : tie.Need-list-clear-requires-2
 list-clear-requires-2 c κs = search needs
 
--- src/wanted.rt:103:43
 enum-told-3 : tie.Need-enum-told-3
 enum-told-3 c = search needs
 
--- src/wanted.rt:103:25
 arrive-apart-requires : tie.Need-arrive-apart-requires
 arrive-apart-requires c κs = search (needs, low-nodes)
 
--- src/wanted.rt:105:16
 enum-told-4 : tie.Need-enum-told-4
 enum-told-4 c = search needs
 
--- src/wanted.rt:106:17
 returns : tie.Need-returns
 returns c = search (needs, kept-empty)
 
--- src/wanted.rt:108:13
 groups-hold-requires : tie.Need-groups-hold-requires
 groups-hold-requires c κs = search (needs, kind-latency)
 
--- src/wanted.rt:88:1
 returns-2 : tie.Need-returns-2
 returns-2 c = search (needs, kept-ban)
 
--- src/wanted.rt:88:1
 returns-3 : tie.Need-returns-3
 returns-3 c = search (needs, kept-fence)
 
--- src/wanted.rt:88:1
 returns-4 : tie.Need-returns-4
 returns-4 c = search (needs, kept-spread)
 
--- src/wanted.rt:88:1
 returns-5 : tie.Need-returns-5
 returns-5 c = search (needs, kept-groups)
 

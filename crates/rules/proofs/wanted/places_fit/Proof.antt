@@ -7,15 +7,12 @@ use Rattle.rules.proofs.wanted.places_fit.Lts as lts
 use Rattle.rules.proofs.step.loads.Reads as loads-reads
 use Rattle.rules.proofs.wanted.all_fit.Reads as all-fit-reads
 
--- src/wanted.rt:48:9
 loads-requires : tie.Need-loads-requires
 loads-requires c κs = search (needs, rest-ready)
 
--- src/wanted.rt:49:5
 all-fit-requires : tie.Need-all-fit-requires
 all-fit-requires c κs = search needs
 
--- src/wanted.rt:43:1
 returns : tie.Need-returns
 returns c = search (needs, rest-fits)
 

@@ -11,27 +11,21 @@ use Rattle.rules.proofs.places.target_places.Reads as target-places-rea
 use Rattle.rules.proofs.wanted.all_kept.Reads as all-kept-reads
 use Rattle.rules.proofs.wanted.places_fit.Reads as places-fit-reads
 
--- src/wanted.rt:136:18
 target-places-requires : tie.Need-target-places-requires
 target-places-requires c κs = search needs
 
--- src/wanted.rt:137:9
 places-fit-requires : tie.Need-places-fit-requires
 places-fit-requires c κs = search (needs, target-placed)
 
--- src/wanted.rt:138:9
 returns : tie.Need-returns
 returns c = search (needs, target-overfull, not-true)
 
--- src/wanted.rt:140:9
 all-kept-requires : tie.Need-all-kept-requires
 all-kept-requires c κs = search (needs, placed-low, target-placed)
 
--- src/wanted.rt:141:9
 returns-2 : tie.Need-returns-2
 returns-2 c = search (needs, target-broken, not-true, not-false, placed-low, target-placed)
 
--- src/wanted.rt:132:1
 returns-3 : tie.Need-returns-3
 returns-3 c = search (needs, target-good, not-false, placed-low, target-placed)
 

@@ -4,15 +4,12 @@ use Rattle.rules.proofs.tally.Tally.with.Tie as tie
 use Rattle.rules.proofs.tally.Tally.with.Reads as reads
 use Rattle.rules.proofs.tally.Tally.with.Lts as lts
 
--- src/tally.rt:30:21
 add-t3 : tie.Need-add-t3
 add-t3 c = search needs
 
--- src/tally.rt:31:18
 add-t4 : tie.Need-add-t4
 add-t4 c = search needs
 
--- src/tally.rt:25:5
 returns : tie.Need-returns
 returns c = search needs
 
