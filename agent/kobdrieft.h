@@ -11,9 +11,9 @@
  *
  * Threads. There is no state: any number of threads may call at once, each with an `out` of its own.
  *
- * Stack. Measured on full clusters, x86-64: `kobdrieft_check` takes 91,391 bytes (512 steps), `kobdrieft_build`
- * 175,183 (500 steps). A step takes 112 bytes and a built plan has at most 511, so `kobdrieft_build` should
- * take 176,415 at most. Give a thread KOB_CHECK_STACK or KOB_BUILD_STACK, and what it needs itself.
+ * Stack. Measured on full clusters, x86-64: `kobdrieft_check` takes 34,079 bytes (512 steps), `kobdrieft_build`
+ * 119,215 (1 step) and 119,127 (500 steps): it does not grow with the steps. Give a thread KOB_CHECK_STACK or
+ * KOB_BUILD_STACK, and what it needs itself.
  *
  * No call allocates, does I/O, or calls anything but memcpy, memmove, memset and memcmp.
  */
@@ -53,8 +53,8 @@ uint64_t kobdrieft_build(const uint8_t *cluster, size_t cluster_len, uint8_t *ou
 #define KOB_MAX_PLAN_BYTES 3079
 #define KOB_BUILD_BUFFER 2051        /* `kobdrieft_build` refuses a shorter `out` */
 
-#define KOB_CHECK_STACK (96 * 1024)  /* `kobdrieft_check` takes less than this */
-#define KOB_BUILD_STACK (192 * 1024) /* `kobdrieft_build` takes less than this */
+#define KOB_CHECK_STACK (40 * 1024)  /* `kobdrieft_check` takes less than this */
+#define KOB_BUILD_STACK (128 * 1024) /* `kobdrieft_build` takes less than this */
 
 /* ---- what a result says */
 

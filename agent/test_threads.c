@@ -96,8 +96,8 @@ static void test_stack(void)
     expect(built_long.result == long_result, "the chains are planned");
     expect(check_use < KOB_CHECK_STACK, "check keeps to its stack");
     expect(build_use < KOB_BUILD_STACK, "build keeps to its stack on the full room");
-    /* 511 steps at most, where the chains take 500; a step takes 112 bytes. */
-    expect(long_use + 11 * 112 < KOB_BUILD_STACK, "build keeps to its stack on the chains");
+    expect(long_use < KOB_BUILD_STACK, "build keeps to its stack on the chains");
+    expect(long_use < build_use + CHAIN_STEPS, "and takes none for a step");
     printf("stack used: check %zu bytes (512 steps), build %zu (1 step), build %zu (%d steps)\n", check_use,
            build_use, long_use, CHAIN_STEPS);
     group("stack");

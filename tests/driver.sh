@@ -102,6 +102,7 @@ expect 'the same record' 0 '' '' cmp 'cluster A' ../packed
 expect 'a plan record as text' 0 '' '' "$driver" unpack-plan 'plan A' ../text
 expect 'a plan record from text' 0 '' '' "$driver" pack-plan ../text ../packed
 expect 'the same plan record' 0 '' '' cmp 'plan A' ../packed
+expect 'the cost, step after step' 0 "$(printf '%s\n' 'step  moves  most  before  sum  total' '   1      2     3       0    5      5' 'cost                                5')" 'room: the checker would refuse this plan (refused 17 step 1)*' "$driver" cost 'cluster A' both
 expect 'a page' 0 '' '' "$driver" draw 'cluster A' 'plan A' ../page.html
 expect 'whose verdict' 0 '1' '' bash -c 'grep -c "proved checker" ../page.html'
 expect 'a page of no plan' 2 '' 'room: *' "$driver" draw 'cluster A' empty ../page.html
@@ -125,6 +126,7 @@ expect 'another command' 3 '' 'kobdrieft: no such command: plans*usage:*' "$driv
 expect 'plan of nothing' 3 '' 'kobdrieft: plan takes a cluster record*usage:*' "$driver" plan
 expect 'plan of three' 3 '' 'kobdrieft: plan takes a cluster record*' "$driver" plan 'cluster A' 'plan A' more
 expect 'check of one' 3 '' 'kobdrieft: check takes a cluster record and a plan record*' "$driver" check 'cluster A'
+expect 'cost of one' 3 '' 'kobdrieft: cost takes *' "$driver" cost 'cluster A'
 expect 'draw of two' 3 '' 'kobdrieft: draw takes *' "$driver" draw 'cluster A' 'plan A'
 expect 'lib of a file' 3 '' 'kobdrieft: lib takes no argument*' "$driver" lib 'cluster A'
 expect 'test of a file' 3 '' 'kobdrieft: test takes no argument*' "$driver" test 'cluster A'

@@ -7,6 +7,7 @@ pub mod draw;
 pub mod edges;
 pub mod form;
 pub mod gen;
+pub mod ledger;
 pub mod orders;
 pub mod pack;
 pub mod planner;

@@ -109,6 +109,7 @@ pub fn may_go(room: &Room, vm: usize, node: usize) -> bool {
 }
 
 /// Whether a constraint lets this VM go to the node; only a ban or a fence ever does not.
+#[inline(always)]
 pub fn allows(constraint: &Constraint, vm: usize, node: usize) -> bool {
     match constraint {
         Constraint::Ban { vms, nodes } => !(vms.contains(&vm) && nodes.contains(&node)),
@@ -221,17 +222,23 @@ pub fn step_cost(room: &Room, step: &[Move]) -> u64 {
     step.iter().map(|m| room.vms[m.vm].memory).max().unwrap_or(0)
 }
 
-/// What a plan costs: each move pays its VM's memory and the cost of every earlier step.
+/// What the moves of a step cost: each pays its VM's memory and the costs of the steps before.
+pub fn step_sum(room: &Room, step: &[Move], before: u64) -> u64 {
+    step.iter().map(|m| room.vms[m.vm].memory + before).sum()
+}
+
+/// What a plan costs, built up from its first step to its last. The loop has the shape and the
+/// names of the library's own, to be followed in a debugger (`docs/COST.md`).
 pub fn plan_cost(room: &Room, steps: &[Step]) -> u64 {
-    let mut earlier_steps = 0;
-    let mut cost = 0;
+    // What the steps so far cost in all, and the running total.
+    let mut steps_cost = 0;
+    let mut total = 0;
     for step in steps {
-        for m in step {
-            cost += room.vms[m.vm].memory + earlier_steps;
-        }
-        earlier_steps += step_cost(room, step);
+        let most = step_cost(room, step);
+        total += step_sum(room, step, steps_cost);
+        steps_cost += most;
     }
-    cost
+    total
 }
 
 // ---------------------------------------------------------------- the checker

@@ -1,6 +1,10 @@
 //! The command itself, run on files.
 
+use kobdrieft_model::gen::{cases, Case};
 use kobdrieft_model::reasons::reason;
+use kobdrieft_model::rules::plan_cost;
+use kobdrieft_model::{check, parse_cluster, parse_plan, Room, Step, Verdict};
+use std::collections::BTreeSet;
 use std::fs;
 use std::path::PathBuf;
 use std::process::Command;
@@ -56,6 +60,15 @@ impl Folder {
         let line = format!("refused {number} step {step}\n");
         let outcome = (2, line, format!("room: {}\n", reason(number)));
         assert_eq!(self.room(words), outcome, "{words}");
+    }
+
+    /// Makes the records of cluster A and of a plan for it; gives what `cost` says of them.
+    fn cost_of(&self, steps: &str) -> (i32, String, String) {
+        self.put("a.txt", A);
+        self.put("steps.txt", steps);
+        self.prints("pack a.txt a.cluster");
+        self.prints("pack-plan steps.txt a.plan");
+        self.room("cost a.cluster a.plan")
     }
 
     /// Makes the records of cluster A and of a plan with both moves in one step.
@@ -143,6 +156,106 @@ fn a_cluster_that_gets_no_plan() {
     here.prints("draw stuck.cluster stuck.plan stuck.html");
 }
 
+const HEADING: &str = "step moves most before sum total";
+
+/// The lines of a table, each as its words with one space between.
+fn cells(table: &str) -> Vec<String> {
+    let words = |line: &str| line.split_whitespace().collect::<Vec<&str>>().join(" ");
+    table.lines().map(words).collect()
+}
+
+/// What `cost` says beside the table of a plan that is refused.
+fn remark(number: u8, step: u16) -> String {
+    let why = reason(number);
+    format!("room: the checker would refuse this plan (refused {number} step {step}): {why}\n")
+}
+
+#[test]
+fn how_the_cost_of_a_builds_up() {
+    let here = Folder::new("cost");
+    let table = [
+        "step  moves  most  before  sum  total\n",
+        "   1      1     3       0    3      3\n",
+        "   2      1     2       3    5      8\n",
+        "   3      1     3       5    8     16\n",
+        "cost                               16\n",
+    ];
+    let steps = "step 0 to 2\nstep 1 to 0\nstep 0 to 1\n";
+    assert_eq!(here.cost_of(steps), (0, table.concat(), String::new()));
+}
+
+#[test]
+fn the_cost_of_refused_plans() {
+    let here = Folder::new("cost-refused");
+    let holds = |steps: &str, rows: &[&str], number, step| {
+        let (status, table, err) = here.cost_of(steps);
+        assert_eq!((status, err), (0, remark(number, step)), "{steps}");
+        assert_eq!(cells(&table), [&[HEADING], rows].concat());
+    };
+    holds("", &["cost 0"], 19, 0);
+    holds("step 0 to 1, 1 to 0", &["1 2 3 0 5 5", "cost 5"], 17, 1);
+    let twice = "step 0 to 2\nstep 0 to 1, 1 to 0\n";
+    holds(twice, &["1 1 3 0 3 3", "2 2 3 3 11 14", "cost 14"], 17, 2);
+    holds("step 1 to 9", &["1 1 2 0 2 2", "cost 2"], 15, 1);
+}
+
+#[test]
+fn what_has_no_cost() {
+    let here = Folder::new("cost-none");
+    let why = format!(
+        "room: a.plan: refused with number 15: {} In step 2, VM 2 is not there (this cluster has \
+         VMs 0 to 1).\n",
+        reason(15)
+    );
+    let steps = "step 0 to 2\nstep 1 to 0, 2 to 1\n";
+    assert_eq!(here.cost_of(steps), (2, String::new(), why));
+    here.put("short", [1, 0, 0]);
+    for (files, number) in [("short a.plan", 1), ("a.cluster short", 11), ("short short", 1)] {
+        let why = format!("short: refused with number {number}: {}", reason(number));
+        here.fails(&format!("cost {files}"), 2, &why);
+    }
+}
+
+/// The cluster and the steps, if both records are whole and every VM of the steps is there.
+fn whole(cluster: &[u8], plan: &[u8]) -> Option<(Room, Vec<Step>)> {
+    let (room, steps) = (parse_cluster(cluster).ok()?, parse_plan(plan).ok()?);
+    let all_there = steps.iter().flatten().all(|m| m.vm < room.vms.len());
+    all_there.then_some((room, steps))
+}
+
+#[test]
+fn the_last_word_is_the_cost() {
+    let here = Folder::new("cost-cases");
+    let mut seen = [0; 20];
+    for Case { cluster, plan, .. } in cases(4, 400) {
+        here.put("cluster", &cluster);
+        here.put("plan", &plan);
+        let (status, table, err) = here.room("cost cluster plan");
+        let Some((room, steps)) = whole(&cluster, &plan) else {
+            assert!(status == 2 && table.is_empty(), "{table}");
+            assert!(err.contains(": refused with number "), "{err}");
+            continue;
+        };
+        let (number, said) = match check(&cluster, &plan) {
+            Verdict::Accepted { .. } => (0, String::new()),
+            Verdict::Refused { number, step } => (number, remark(number, step)),
+        };
+        assert_eq!((status, err), (0, said));
+        seen[usize::from(number)] += 1;
+
+        let cost = plan_cost(&room, &steps);
+        let rows = cells(&table);
+        assert_eq!(rows.len(), steps.len() + 2);
+        assert_eq!(rows[steps.len() + 1], format!("cost {cost}"));
+        assert!(steps.is_empty() || rows[steps.len()].ends_with(&format!(" {cost}")), "{table}");
+        let widths: BTreeSet<usize> = table.lines().map(str::len).collect();
+        assert_eq!(widths.len(), 1, "{table}");
+    }
+    for number in [0, 8, 9, 15, 16, 17, 18, 19] {
+        assert!(seen[number] > 0, "{number}: {seen:?}");
+    }
+}
+
 #[test]
 fn what_it_cannot_do() {
     let here = Folder::new("cannot");
@@ -157,14 +270,14 @@ fn what_it_cannot_do() {
         let why = format!("short: refused with number {number}: {}", reason(number));
         here.fails(&format!("{command} short"), 2, &why);
     }
-    for words in ["unpack missing", "plan missing x", "check missing x"] {
+    for words in ["unpack missing", "plan missing x", "check missing x", "cost missing x"] {
         let (status, _, err) = here.room(words);
         assert!(status == 3 && err.starts_with("room: missing: cannot be read ("), "{err}");
     }
     here.put("a.txt", A);
     let (status, _, err) = here.room("pack a.txt no/such/folder");
     assert!(status == 3 && err.contains("cannot be written"), "{err}");
-    for words in ["", "pack a.txt", "unpack a b c", "paint a b", "draw a b c d e"] {
+    for words in ["", "pack a.txt", "unpack a b c", "paint a b", "cost a", "draw a b c d e"] {
         let (status, _, err) = here.room(words);
         assert!(status == 3 && err.contains("room pack TEXT CLUSTER"), "{words}: {err}");
     }

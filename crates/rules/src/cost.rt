@@ -1,5 +1,5 @@
-// What the steps of a plan cost: Entropy's estimate, by its recurrence, one call for each step. A move costs at most 512 times the
-// largest memory, 8,589,934,080, so a plan costs less than 2 to the 43.
+// What the steps of a plan cost: Entropy's estimate, built up step after step. A move costs at most 512 times the largest memory,
+// 8,589,934,080, so a plan costs less than 2 to the 43.
 ghost use mathlib.Core.Path.{_≡_};
 ghost use Prim.Native.Nat.{_+_, _*_, _≤_, _<_, _^_, max};
 ghost use lib.ListN.{length};
@@ -65,19 +65,19 @@ fn cost_from(cluster: &[u8], plan: &[u8], at: usize, left: usize, before: u64) -
     requires { ⌜ (clusterCheck (now cluster) ≡ ClusterCheck.Whole) × Steps (now plan) at left × (before + left * 16777215 ≤ 8589934080) ⌝ }
     ensures { λ r. ⌜ (r ≡ costFrom (roomOf (now (cluster .entry))) before (stepsFrom (now (plan .entry)) at left)) × (r ≤ moveTotal (stepsFrom (now (plan .entry)) at left) * 8589934080) ⌝ }
 {
-    if left == 0 {
-        return 0;
+    let mut step = at;
+    let mut steps_left = left;
+    // What the steps so far cost in all, and the running total.
+    let mut steps_cost = before;
+    let mut total: u64 = 0;
+    while 0 < steps_left {
+        let most = step_max(cluster, plan, step);
+        total += step_sum(cluster, plan, step, steps_cost);
+        steps_cost += most;
+        step = records::step_end(plan, step);
+        steps_left -= 1;
     }
-    let own = step_sum(cluster, plan, at, before);
-    let most = step_max(cluster, plan, at);
-    let rest = cost_from(
-        cluster,
-        plan,
-        records::step_end(plan, at),
-        left - 1,
-        before + most,
-    );
-    own + rest
+    total
 }
 
 // The cost of a plan.

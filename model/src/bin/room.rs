@@ -1,10 +1,13 @@
-//! The trainer's command: records from text and back, plans, verdicts and pictures.
+//! The trainer's command: records from text and back, plans, verdicts, costs and pictures.
 
 use kobdrieft_model::draw::{page, Whose};
 use kobdrieft_model::form::{read_cluster, read_plan, write_cluster, write_plan, Fault};
+use kobdrieft_model::ledger::{lines, table};
 use kobdrieft_model::reasons::reason;
+use kobdrieft_model::rules::plan_cost;
 use kobdrieft_model::text::{planned, verdict_text};
-use kobdrieft_model::{check, cluster_bytes, parse_cluster, parse_plan, plan_bytes, Room, Step};
+use kobdrieft_model::{check, cluster_bytes, parse_cluster, parse_plan, plan_bytes};
+use kobdrieft_model::{Room, Step, Verdict};
 use std::{env, fs, io::Write, process::ExitCode};
 
 const USAGE: &str = "\
@@ -14,6 +17,7 @@ room pack-plan TEXT PLAN         a plan's text to its record
 room unpack-plan PLAN [TEXT]     a plan record to text
 room plan CLUSTER PLAN           make a plan, write its record, print what the planning program prints
 room check CLUSTER PLAN          print the verdict
+room cost CLUSTER PLAN           print how the cost builds up, a line for each step; the last word is the cost
 room draw CLUSTER PLAN PAGE [VERDICT]
                                  draw a plan as an HTML page; VERDICT is the line that the proved checker
                                  prints for it, else the page shows the model's own
@@ -62,6 +66,7 @@ fn run(words: &[&str]) -> Outcome {
         }
         ["plan", cluster, plan] => make_plan(cluster, plan),
         ["check", cluster, plan] => answer(&verdict_text(check(&read(cluster)?, &read(plan)?))),
+        ["cost", cluster, plan] => cost_table(cluster, plan),
         ["draw", cluster, plan, page, ref verdict @ ..] if verdict.len() < 2 => {
             draw_plan(cluster, plan, page, verdict.first())
         }
@@ -93,6 +98,26 @@ fn answer(text: &str) -> Outcome {
         ["blocked", ..] => Ok(BLOCKED),
         _ => Ok(DONE),
     }
+}
+
+/// Prints how the cost builds up. A plan that the checker would refuse has a cost too; that it
+/// would is a remark beside the table.
+fn cost_table(cluster: &str, plan: &str) -> Outcome {
+    let room = record(cluster, parse_cluster)?;
+    let steps = record(plan, parse_plan)?;
+    let lines = lines(&room, &steps).map_err(|why| refused(plan, 15, &format!(" {why}")))?;
+    let verdict = check(&cluster_bytes(&room), &plan_bytes(&steps));
+    let cost = match verdict {
+        Verdict::Accepted { cost } => cost,
+        Verdict::Refused { .. } => plan_cost(&room, &steps),
+    };
+    give(None, &table(&lines, cost))?;
+    if let Verdict::Refused { number, .. } = verdict {
+        let line = verdict_text(verdict);
+        let (line, why) = (line.trim_end(), reason(number));
+        eprintln!("room: the checker would refuse this plan ({line}): {why}");
+    }
+    Ok(DONE)
 }
 
 fn draw_plan(cluster: &str, plan: &str, to: &str, verdict: Option<&&str>) -> Outcome {
@@ -144,9 +169,11 @@ fn give(name: Option<&&str>, text: &str) -> Outcome {
 
 /// Reads a record that must be undamaged.
 fn record<T>(name: &str, parse: fn(&[u8]) -> Result<T, u8>) -> Result<T, Failure> {
-    parse(&read(name)?).map_err(|number| {
-        Failure(REFUSED, format!("{name}: refused with number {number}: {}", reason(number)))
-    })
+    parse(&read(name)?).map_err(|number| refused(name, number, ""))
+}
+
+fn refused(name: &str, number: u8, more: &str) -> Failure {
+    Failure(REFUSED, format!("{name}: refused with number {number}: {}{more}", reason(number)))
 }
 
 fn at(name: &str, Fault { line, reason }: Fault) -> Failure {

@@ -1,7 +1,8 @@
--- Laws on the cost: the passes over a step's moves, and the recurrence over the steps.
+-- Laws on the cost: the passes over a step's moves, and the pass over the steps.
 use Prim.Native.Nat.{ℕ, suc, _+_, _-_, _*_, _≤_, _<_, _^_, max}
 use mathlib.Core.List.{List, [], _∷_}
 use mathlib.Core.Path.{_≡_, sym, ap, _∙_}
+use native.Mathlib.Nat.{add-assoc, add-zero}
 use native.Mathlib.Omega.{arith}
 use lib.ListN.{length, drop, drop-of-length-le, List·getD-eq-default}
 use mir.Syntax.{w64}
@@ -58,35 +59,40 @@ sum-end s plan at i before sum inv h = let z : i ≡ 0 = omega arith in rw z at 
 pub sum-most : (plan : List ℕ) (at i sum : ℕ) → sum + i * 8589934080 ≤ moveCount plan at * 8589934080 → sum ≤ length (stepAt plan at) * 8589934080
 sum-most plan at i sum h = rw (step-length plan at) (omega arith)
 
--- ---- the recurrence
+-- ---- the steps, first to last: what is left is added to the running total
 
-pub cost-none : (s plan : List ℕ) (at left before : ℕ) → left ≡ 0 → 0 ≡ costFrom (roomOf s) before (stepsFrom plan at left)
-unfolding costFrom stepsFrom
-cost-none s plan at left before z = rw z
-
-module _ (s plan : List ℕ) (at left before own most rest end : ℕ) (w : Steps plan at left) (z : left ≡ 0 → ⊥) (b : end ≡ stepEnd plan at) where
-  some : 0 < left
-  some = omega arith
-
-  pub cost-more : own ≡ movesCost (roomOf s) before (stepAt plan at) → most ≡ stepCost (roomOf s) (stepAt plan at) →
-      rest ≡ costFrom (roomOf s) (before + most) (stepsFrom plan end (left - 1)) → own + rest ≡ costFrom (roomOf s) before (stepsFrom plan at left)
+module _ (s plan : List ℕ) (at left before step steps cost total : ℕ) (w : Steps plan step steps) (h : 0 < steps) where
+  -- what is left: this step, and the steps behind it
+  left-cons : costFrom (roomOf s) cost (stepsFrom plan step steps) ≡
+      movesCost (roomOf s) cost (stepAt plan step) + costFrom (roomOf s) (cost + stepCost (roomOf s) (stepAt plan step)) (stepsFrom plan (stepEnd plan step) (steps - 1))
   unfolding costFrom movesCost
-  cost-more e f g = rw (steps-cons plan at left w some) (rw (e, g, f, b))
+  left-cons = rw (steps-cons plan step steps w h)
 
-  pub cost-most : own ≤ length (stepAt plan at) * 8589934080 → rest ≤ moveTotal (stepsFrom plan end (left - 1)) * 8589934080 → own + rest ≤ moveTotal (stepsFrom plan at left) * 8589934080
-  cost-most e g =
-      let t : moveTotal (stepsFrom plan at left) ≡ length (stepAt plan at) + moveTotal (stepsFrom plan end (left - 1)) =
-      ap moveTotal (steps-cons plan at left w some) ∙ total-cons (stepAt plan at) (stepsFrom plan (stepEnd plan at) (left - 1)) ∙ ap (λ (k : ℕ). length (stepAt plan at) + moveTotal (stepsFrom plan k (left - 1))) (sym b) in
-      omega arith
+  left-total : moveTotal (stepsFrom plan step steps) ≡ length (stepAt plan step) + moveTotal (stepsFrom plan (stepEnd plan step) (steps - 1))
+  left-total = ap moveTotal (steps-cons plan step steps w h) ∙ total-cons (stepAt plan step) (stepsFrom plan (stepEnd plan step) (steps - 1))
 
-  pub cost-fits : own ≤ length (stepAt plan at) * 8589934080 → rest ≤ moveTotal (stepsFrom plan end (left - 1)) * 8589934080 → Fits w64 (own + rest)
-  cost-fits e g = let m = cost-most e g in let t = w .total in record { fits = omega arith }
+  module _ (most sum : ℕ) (f : most ≡ stepCost (roomOf s) (stepAt plan step)) (e : sum ≡ movesCost (roomOf s) cost (stepAt plan step))
+      (b : sum ≤ length (stepAt plan step) * 8589934080)
+      (m : total + moveTotal (stepsFrom plan step steps) * 8589934080 ≤ moveTotal (stepsFrom plan at left) * 8589934080) where
+    pub total-fits : moveTotal (stepsFrom plan at left) ≤ 1024 → Fits w64 (total + sum)
+    total-fits t = let l = left-total in record { fits = omega arith }
 
-  pub cost-next : Steps plan end (left - 1)
-  cost-next = rw b (steps-next plan at left w some)
+    module _ (end : ℕ) (q : end ≡ stepEnd plan step) where
+      pub total-more : total + costFrom (roomOf s) cost (stepsFrom plan step steps) ≡ costFrom (roomOf s) before (stepsFrom plan at left) →
+          total + sum + costFrom (roomOf s) (cost + most) (stepsFrom plan end (steps - 1)) ≡ costFrom (roomOf s) before (stepsFrom plan at left)
+      total-more inv = rw (q, f, e) (add-assoc total (movesCost (roomOf s) cost (stepAt plan step)) _ ∙ ap (λ (n : ℕ). total + n) (sym left-cons) ∙ inv)
 
-pub steps-in : (plan : List ℕ) (at left : ℕ) → Steps plan at left → (left ≡ 0 → ⊥) → stepEnd plan at ≤ length plan
-steps-in plan at left w z = step-within plan at left w (omega arith)
+      pub total-most : total + sum + moveTotal (stepsFrom plan end (steps - 1)) * 8589934080 ≤ moveTotal (stepsFrom plan at left) * 8589934080
+      total-most = let l = left-total in rw q (omega arith)
+
+      pub total-next : Steps plan end (steps - 1)
+      total-next = rw q (steps-next plan step steps w h)
+
+pub total-end : (s plan : List ℕ) (at left before step steps cost total : ℕ) →
+    total + costFrom (roomOf s) cost (stepsFrom plan step steps) ≡ costFrom (roomOf s) before (stepsFrom plan at left) → steps ≤ 0 →
+    total ≡ costFrom (roomOf s) before (stepsFrom plan at left)
+unfolding costFrom stepsFrom
+total-end s plan at left before step steps cost total inv h = let z : steps ≡ 0 = omega arith in sym (add-zero total) ∙ (rw z at inv)
 
 pub cost-whole : (s plan : List ℕ) (n r : ℕ) → n ≡ stepCount plan → r ≡ costFrom (roomOf s) 0 (stepsFrom plan 7 n) → r ≡ costOf (roomOf s) (stepsOf plan)
 unfolding costOf stepsOf
