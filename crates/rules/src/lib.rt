@@ -29,13 +29,11 @@ pub use verdict::verdict_on;
 pub use cost::plan_cost;
 
 // The arrays that a call keeps.
-pub use arrays::ALLOWED;
 pub use arrays::AllowTable;
 pub use arrays::Destinations;
 pub use arrays::NO_MOVE;
 pub use arrays::NODES;
 pub use arrays::Placement;
-pub use arrays::SUMS;
 pub use arrays::Sums;
 pub use arrays::VMS;
 
