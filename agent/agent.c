@@ -4,7 +4,8 @@
  *
  * CLUSTER is a file with a cluster record. PLAN-OUT gets the plan record, if there is a plan; with
  * --keep-blocked also the steps made before the planner was blocked. What was built goes through the checker
- * before it is written. A file that could not be written whole is no plan record: the checker refuses it.
+ * before it is written. A file that could not be written whole is refused by the checker; only where the plan
+ * has no steps does a file of 0 bytes stand for the same.
  *
  * A line says what came of it. Behind it stands a line for each move made: step, VM, source, destination.
  *
@@ -112,13 +113,14 @@ static void plan_for(const struct cluster *cluster, struct built *built)
     built->len = kob_outcome_of(built->result) == KOB_REFUSED ? 0 : kob_plan_length(built->bytes);
 }
 
-/* Whether what was built can be read: a whole record, or none if refused. */
+/* Whether what was built can be read: a whole record with its header, or none if refused. */
 static int readable(const struct built *built)
 {
     kob_reader reader;
     if (kob_outcome_of(built->result) == KOB_REFUSED)
         return 1;
-    return built->len <= sizeof built->bytes && kob_read_start(&reader, built->bytes, built->len);
+    return built->len > 0 && built->len <= sizeof built->bytes
+           && kob_read_start(&reader, built->bytes, built->len);
 }
 
 /* Whether the checker says of what was built what it must. */

@@ -11,7 +11,7 @@
  *
  * Threads. There is no state: any number of threads may call at once, each with an `out` of its own.
  *
- * Stack. Measured on full clusters, x86-64: `kobdrieft_check` takes 34,079 bytes (512 steps), `kobdrieft_build`
+ * Stack. Measured on full clusters, x86-64: `kobdrieft_check` takes 34,095 bytes (512 steps), `kobdrieft_build`
  * 119,215 (1 step) and 119,127 (500 steps): it does not grow with the steps. Give a thread KOB_CHECK_STACK or
  * KOB_BUILD_STACK, and what it needs itself.
  *
@@ -23,14 +23,15 @@
 #include <stddef.h>
 #include <stdint.h>
 
-/* Grows whenever this interface does. */
-#define KOBDRIEFT_VERSION 1
+/* Grows whenever this interface changes, or what its calls answer. */
+#define KOBDRIEFT_VERSION 2
 
 #ifdef __cplusplus
 extern "C" {
 #endif
 
-/* The verdict on a plan record for a cluster record. */
+/* The verdict on a plan record for a cluster record. A plan of 0 bytes is one of no steps, as a header with 0
+ * steps is: do not lend a plan whose file could not be read. */
 uint64_t kobdrieft_check(const uint8_t *cluster, size_t cluster_len, const uint8_t *plan, size_t plan_len);
 
 /* Plans for a cluster record. Of a plan and of blocked, the steps made stand as a plan record at the front
@@ -173,7 +174,8 @@ static inline uint32_t kob_number(const uint8_t *bytes, unsigned count)
 }
 
 /* The whole length that a plan record's header states; 5 bytes must be readable. After `kobdrieft_build` made
- * a plan or was blocked it is the length of the record in `out`. */
+ * a plan or was blocked it is the length of the record in `out`. Do not ask it of what a refusal left: of zeros
+ * it gives 0, and 0 bytes are a plan of no steps. */
 static inline size_t kob_plan_length(const uint8_t *record)
 {
     return kob_number(record + 1, 4);
@@ -208,8 +210,9 @@ static inline int kob_vm_current(const uint8_t *cluster, size_t cluster_len, uns
  * written, and of a damaged record no step is given. The bytes must stay where and as they are until reading
  * has ended; a copy of a reader reads on by itself.
  *
- * Whole or damaged is a matter of shape alone, the faults 11 to 14. What a whole record's moves mean for a
- * cluster, and whether their VMs and nodes are there, is what kob_check says. */
+ * Whole or damaged is a matter of shape alone, the faults 11 to 14. 0 bytes are a whole record, of no steps.
+ * What a whole record's moves mean for a cluster, and whether their VMs and nodes are there, is what kob_check
+ * says. */
 
 /* Where reading is. For the functions below only. */
 typedef struct {
@@ -237,10 +240,12 @@ static inline int kob_read_damaged(kob_reader *reader)
     return 0;
 }
 
-/* Reads the header, and says whether it is good. */
+/* Reads the header, if there are bytes, and says whether it is good. */
 static inline int kob_read_header(kob_reader *reader)
 {
     const size_t header = 7;
+    if (reader->len == 0)
+        return 1;
     if (reader->len < header || kob_plan_length(reader->bytes) != reader->len)
         return kob_read_damaged(reader);
     reader->move_bytes = kob_move_bytes(reader->bytes[0]);

@@ -527,7 +527,7 @@ agents() {
 wrong() {
   local i
   agent=$work/wrong
-  for i in 1 2 3 4 5 6 7 8 9; do
+  for i in 1 2 3 4 5 6 7 8 9 10; do
     expect "wrong library $i" "$cc" "${strict[@]}" "${sanitize[@]}" -DWRONG=$i "$here/agent.c" \
       "$here/test_wrong.c" -o "$agent"
     expect "disagreement $i" keeps 5 'planner and checker disagree' --keep-blocked "$work/a"

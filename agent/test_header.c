@@ -72,7 +72,7 @@ static void test_texts(void)
     expect(strstr(kob_fault_text(KOB_FAULT_OFF_TARGET), "target") != NULL, "text 19");
     expect(strcmp(kob_fault_text(256), "Unknown number.") == 0, "text of 256");
     expect(strcmp(kob_fault_text(~0u), "Unknown number.") == 0, "text of the largest number");
-    expect(KOBDRIEFT_VERSION >= 1, "the interface's version");
+    expect(KOBDRIEFT_VERSION == 2, "the interface's version");
     group("texts");
 }
 
@@ -85,14 +85,63 @@ static void test_empty(void)
     memset(out, FILL, sizeof out);
     expect(kob_check(NULL, 0, NULL, 0) == refused(1, 0), "check, both NULL");
     expect(kob_check(NULL, 0, plan_a, sizeof plan_a) == refused(1, 0), "check, cluster NULL");
-    expect(kob_check(cluster_a, sizeof cluster_a, NULL, 0) == refused(11, 0), "check, plan NULL");
-    expect(kob_check(cluster_a, sizeof cluster_a, nowhere, 0) == refused(11, 0), "check, plan nowhere");
+    expect(kob_check(cluster_a, sizeof cluster_a, NULL, 0) == refused(19, 0), "check, plan NULL");
+    expect(kob_check(cluster_a, sizeof cluster_a, nowhere, 0) == refused(19, 0), "check, plan nowhere");
     expect(kob_build(NULL, 0, NULL, 0) == refused(1, 0), "build, both NULL");
     expect(kob_build(NULL, 0, out, sizeof out) == refused(1, 0), "build, cluster NULL");
     expect(kob_build(cluster_a, sizeof cluster_a, NULL, 0) == refused(10, 0), "build, buffer NULL");
     expect(kob_build(cluster_a, sizeof cluster_a, nowhere, 0) == refused(10, 0), "build, buffer nowhere");
     expect(all_are(out, sizeof out, FILL), "refusals write nothing");
     group("length 0");
+}
+
+/* ---- a plan of 0 bytes: one of no steps, on every cluster */
+
+static const uint8_t no_steps[] = {1, 0, 0, 0, 7, 0, 0};
+
+/* Whether 0 bytes get the verdict of a header with 0 steps. `number` is set to its refusal's number, or 0. */
+static int as_header(const uint8_t *cluster, size_t len, unsigned *number)
+{
+    uint64_t verdict = kob_check(cluster, len, NULL, 0);
+    *number = kob_refusal_number(verdict);
+    return verdict == kob_check(cluster, len, no_steps, sizeof no_steps);
+}
+
+/* A with one byte of each value, whole and cut behind that byte; `hit` counts the numbers. */
+static int changed_as_header(unsigned hit[256])
+{
+    int same = 1;
+    unsigned number;
+    for (size_t i = 0; i < sizeof cluster_a; i++) {
+        uint8_t cluster[sizeof cluster_a];
+        memcpy(cluster, cluster_a, sizeof cluster);
+        for (unsigned value = 0; value < 256; value++) {
+            cluster[i] = (uint8_t)value;
+            same = as_header(cluster, sizeof cluster, &number) && same;
+            hit[number]++;
+            same = as_header(cluster, i + 1, &number) && same;
+            hit[number]++;
+        }
+    }
+    return same;
+}
+
+static void test_no_plan(void)
+{
+    uint8_t home[sizeof cluster_a];
+    unsigned number, hit[256] = {0};
+    memcpy(home, cluster_a, sizeof home);
+    home[32] = 0; /* VM 0's target */
+    home[39] = 1; /* VM 1's */
+    expect(kob_check(home, sizeof home, NULL, 0) == 0, "at home: accepted at cost 0");
+    expect(as_header(home, sizeof home, &number), "at home: as a header");
+    for (size_t len = 1; len < sizeof no_steps; len++)
+        expect(kob_check(home, sizeof home, no_steps, len) == refused(11, 0), "at home: 1 to 6 bytes");
+    expect(changed_as_header(hit), "A, a byte changed: as a header");
+    expect(hit[1] && hit[2] && hit[3] && hit[4] && hit[5] && hit[6], "damaged clusters among them");
+    expect(hit[8] && hit[19], "a target refused, and VMs off their target");
+    expect(hit[11] + hit[12] + hit[13] + hit[14] == 0, "none is refused for its plan's shape");
+    group("a plan of 0 bytes");
 }
 
 /* ---- cluster A, in allocations of exactly the stated sizes */
@@ -153,16 +202,15 @@ static uint64_t verdict_on_a(const uint8_t *bytes, size_t len)
 
 static void test_verdicts(void)
 {
-    static const uint8_t none[] = {1, 0, 0, 0, 7, 0, 0};
     static const uint8_t both[] = {1, 0, 0, 0, 13, 0, 1, 0, 2, 0, 1, 1, 0};
     static const uint8_t stays[] = {1, 0, 0, 0, 11, 0, 1, 0, 1, 0, 0};
     static const uint8_t version[] = {2, 0, 0, 0, 7, 0, 0};
     static const uint8_t counts[] = {1, 0, 0, 0, 7, 0, 1};
     expect(verdict_on_a(plan_a, sizeof plan_a) == 16, "A: its plan");
-    expect(verdict_on_a(none, sizeof none) == refused(19, 0), "A: no steps");
+    expect(verdict_on_a(no_steps, sizeof no_steps) == refused(19, 0), "A: no steps");
     expect(verdict_on_a(both, sizeof both) == refused(17, 1), "A: both moves in one step");
     expect(verdict_on_a(stays, sizeof stays) == refused(15, 1), "A: VM 0 to node 0");
-    expect(verdict_on_a(none, 6) == refused(11, 0), "A: a plan of 6 bytes");
+    expect(verdict_on_a(no_steps, 6) == refused(11, 0), "A: a plan of 6 bytes");
     expect(verdict_on_a(version, sizeof version) == refused(12, 0), "A: plan version 2");
     expect(verdict_on_a(plan_a, 18) == refused(13, 0), "A: a plan cut short");
     expect(verdict_on_a(counts, sizeof counts) == refused(14, 0), "A: a step that is not there");
@@ -313,6 +361,7 @@ int main(void)
     test_unpackers();
     test_texts();
     test_empty();
+    test_no_plan();
     test_cluster_a();
     test_pages();
     return status();

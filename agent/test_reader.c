@@ -48,9 +48,13 @@ static void read_all(const uint8_t *bytes, size_t len, struct reading *got)
     finish(&got->again);
 }
 
-/* Of a whole record everything is read, and nothing else. */
+static const uint8_t no_steps[] = {1, 0, 0, 0, 7, 0, 0};
+
+/* Of a whole record everything is read, and nothing else; of 0 bytes what a header with 0 steps gives. */
 static int read_whole(const struct reading *got, const uint8_t *bytes, size_t len)
 {
+    if (len == 0)
+        return read_whole(got, no_steps, sizeof no_steps);
     return got->started == 1 && got->whole == 1 && got->again.len == len
            && memcmp(got->again.bytes, bytes, len) == 0;
 }
@@ -128,24 +132,39 @@ static void test_a(void)
 
 static void test_no_steps(void)
 {
-    static const uint8_t none[] = {1, 0, 0, 0, 7, 0, 0};
     kob_reader reader;
     unsigned moves, vm, destination;
-    expect(kob_read_start(&reader, none, sizeof none) == 1, "no steps: starts");
+    expect(kob_read_start(&reader, no_steps, sizeof no_steps) == 1, "no steps: starts");
     expect(!kob_read_step(&reader, &moves) && !kob_read_move(&reader, &vm, &destination), "no steps: none");
     expect(kob_read_whole(&reader), "no steps: whole");
-    expect(agree_whole(none, sizeof none), "no steps: against pages");
+    expect(agree_whole(no_steps, sizeof no_steps), "no steps: against pages");
 }
 
-/* Any pointer will do. */
+/* Whether a reader that has no more steps has no more moves either, however often it is asked. */
+static int stays_ended(kob_reader *reader)
+{
+    unsigned moves, vm, destination;
+    int ended = 1;
+    for (int i = 0; i < 3; i++) {
+        ended = ended && !kob_read_step(reader, &moves);
+        ended = ended && !kob_read_move(reader, &vm, &destination);
+    }
+    return ended;
+}
+
+/* A whole record of no steps, and any pointer will do. */
 static void test_no_bytes(void)
 {
     const uint8_t *pointers[] = {NULL, (const uint8_t *)(uintptr_t)1, pages.front + pages.size};
+    kob_reader reader;
     for (int i = 0; i < 3; i++) {
         static struct reading got;
         read_all(pointers[i], 0, &got);
-        expect(read_damaged(&got), "no bytes");
+        expect(read_whole(&got, NULL, 0) && got.steps == 0 && got.moves == 0, "0 bytes");
+        kob_read_start(&reader, pointers[i], 0);
+        expect(stays_ended(&reader) && kob_read_whole(&reader), "0 bytes: stays ended");
     }
+    expect(agree_whole(no_steps, 0), "0 bytes: against pages");
 }
 
 /* Steps of 2, 3 and 1 moves. */
@@ -178,18 +197,6 @@ static void test_skipping(void)
     expect(kob_read_move(&reader, &vm, &destination) && vm == 20 && destination == 0, "skipping: its move");
     expect(!kob_read_step(&reader, &moves) && kob_read_whole(&reader), "skipping: ends whole");
     expect(kob_read_move(&copy, &vm, &destination) && vm == 11 && destination == 1, "a copy reads on");
-}
-
-/* Whether a reader that has no more steps has no more moves either, however often it is asked. */
-static int stays_ended(kob_reader *reader)
-{
-    unsigned moves, vm, destination;
-    int ended = 1;
-    for (int i = 0; i < 3; i++) {
-        ended = ended && !kob_read_step(reader, &moves);
-        ended = ended && !kob_read_move(reader, &vm, &destination);
-    }
-    return ended;
 }
 
 /* No move is read at all; the record ends at a page. */
@@ -263,10 +270,12 @@ static void test_limits(void)
 
 /* ---- damage */
 
-/* Whether the front of a record is damaged: as it is, and with its own length stated. */
+/* Whether the front of a record is damaged, as it is and with its own length stated; 0 bytes are whole. */
 static int cut_right(const uint8_t *bytes, size_t cut)
 {
     static struct record front;
+    if (cut == 0)
+        return agree_whole(bytes, cut);
     memcpy(front.bytes, bytes, cut);
     front.len = cut;
     int right = agree_damaged(front.bytes, cut);

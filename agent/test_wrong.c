@@ -22,6 +22,9 @@
 #elif WRONG == 7 /* no outcome that there is */
 #define BUILT ((uint64_t)3 << 62)
 #define CHECKED BUILT
+#elif WRONG == 10 /* no record at all, of a plan of no steps */
+#define BUILT ((uint64_t)0)
+#define CHECKED BUILT
 #else /* 8: a record longer than the buffer; 9: a damaged one */
 #define BUILT ((uint64_t)16)
 #define CHECKED BUILT
@@ -34,7 +37,7 @@ uint64_t kobdrieft_build(const uint8_t *cluster, size_t cluster_len, uint8_t *ou
         out[i] = 0;
     out[0] = 1;
     out[3] = WRONG == 8 ? 9 : 0;
-    out[4] = 7;
+    out[4] = WRONG == 10 ? 0 : 7;
     out[6] = WRONG == 9 ? 1 : 0;
     return BUILT;
 }

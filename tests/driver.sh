@@ -48,6 +48,8 @@ bytes 01 00000028 0003 0002 0000 0000040064 0000040064 0000010064 0000030032 00 
 bytes 01 00000007 0000 >none
 bytes 01 0000000d 0001 0002 00 01 01 00 >both
 : >empty
+bytes 01 00000028 0003 0002 0000 0000040064 0000040064 0000040064 0000030032 00 00 0000020032 01 01 >home
+head -c 6 none >cut
 long_plan 01 65536 65536 >long
 long_plan 01 65536 65537 >longer
 long_plan 01 65537 65537 >honest
@@ -66,7 +68,11 @@ expect 'accepted' 0 'accepted cost 16' '' "$driver" check 'cluster A' 'plan A'
 expect 'off target' 2 'refused 19 step 0' 'kobdrieft: Every step is sound, but after the last some VM is off its target.' "$driver" check 'cluster A' none
 expect 'does not fit' 2 'refused 17 step 1' 'kobdrieft: In some order*' "$driver" check 'cluster A' both
 expect 'no record to check' 2 'refused 1 step 0' '*fewer than 11 bytes*' "$driver" check empty 'plan A'
-expect 'no plan to check' 2 'refused 11 step 0' '*fewer than 7 bytes*' "$driver" check 'cluster A' empty
+expect 'a cut plan' 2 'refused 11 step 0' 'kobdrieft: The plan record has 1 to 6 bytes.' "$driver" check home cut
+expect 'an empty plan, nothing to move' 0 'accepted cost 0' '' "$driver" check home empty
+expect 'an empty plan from a pipe' 0 'accepted cost 0' '' "$driver" check home <(cat empty)
+expect 'an empty plan, VMs to move' 2 'refused 19 step 0' 'kobdrieft: Every step is sound*' "$driver" check 'cluster A' empty
+expect 'an empty plan, no cluster' 2 'refused 1 step 0' '*fewer than 11 bytes*' "$driver" check empty empty
 expect 'a long cluster' 2 'refused 3 step 0' 'kobdrieft: *' "$driver" check longer 'plan A'
 expect 'a full buffer of plan' 2 'refused 14 step 0' 'kobdrieft: *' "$driver" check 'cluster A' long
 expect 'a long plan, another length stated' 2 'refused 13 step 0' 'kobdrieft: *' "$driver" check 'cluster A' longer
@@ -83,6 +89,8 @@ kept() { # COMMAND.. OUT: what is in OUT behind a command that writes nothing
   return "$status"
 }
 expect 'a plan, written' 0 "$a_plan"$'\n'"$(od -An -v -tx1 'plan A' | tr -d ' \n')" '' written 'cluster A' ../out
+expect 'a plan of no steps, written' 0 'plan steps 0 moves 0 cost 0' '' "$driver" plan home ../out
+expect 'its header' 0 '' '' cmp none ../out
 expect 'blocked, written' 1 'blocked steps 0 moves 0 cost 0' '' "$driver" plan blocked ../out
 expect 'the steps made' 0 '' '' cmp none ../out
 expect 'refused, not written' 2 $'refused 1 step 0\nbefore' 'kobdrieft: *' kept "$driver" plan empty ../out
@@ -102,10 +110,15 @@ expect 'the same record' 0 '' '' cmp 'cluster A' ../packed
 expect 'a plan record as text' 0 '' '' "$driver" unpack-plan 'plan A' ../text
 expect 'a plan record from text' 0 '' '' "$driver" pack-plan ../text ../packed
 expect 'the same plan record' 0 '' '' cmp 'plan A' ../packed
+expect 'an empty plan as text' 0 '' '' "$driver" unpack-plan empty ../text
+expect 'a header from its text' 0 '' '' "$driver" pack-plan ../text ../packed
+expect 'of no steps' 0 '' '' cmp none ../packed
+expect 'the cost of an empty plan' 0 "$(printf '%s\n' 'step  moves  most  before  sum  total' 'cost                                0')" '' "$driver" cost home empty
 expect 'the cost, step after step' 0 "$(printf '%s\n' 'step  moves  most  before  sum  total' '   1      2     3       0    5      5' 'cost                                5')" 'room: the checker would refuse this plan (refused 17 step 1)*' "$driver" cost 'cluster A' both
 expect 'a page' 0 '' '' "$driver" draw 'cluster A' 'plan A' ../page.html
 expect 'whose verdict' 0 '1' '' bash -c 'grep -c "proved checker" ../page.html'
-expect 'a page of no plan' 2 '' 'room: *' "$driver" draw 'cluster A' empty ../page.html
+expect 'a page of an empty plan' 0 '' '' "$driver" draw home empty ../page.html
+expect 'a page of a cut plan' 2 '' 'room: *' "$driver" draw home cut ../page.html
 expect 'a page from a pipe' 3 '' 'kobdrieft: draw reads its files twice*' "$driver" draw <(cat 'cluster A') 'plan A' ../page.html
 
 # where the files are
@@ -135,11 +148,15 @@ expect 'plan: no such file' 3 '' 'kobdrieft: no such file: plant.cluster' "$driv
 expect 'check: no such file' 3 '' 'kobdrieft: no such file: plant.plan' "$driver" check 'cluster A' plant.plan
 expect 'plan: a folder' 3 '' 'kobdrieft: a directory, not a file: folder' "$driver" plan folder
 expect 'check: a folder' 3 '' 'kobdrieft: a directory, not a file: folder' "$driver" check folder 'plan A'
+expect 'check: a folder as plan' 3 '' 'kobdrieft: a directory, not a file: folder' "$driver" check home folder
+expect 'check: no such plan' 3 '' 'kobdrieft: no such file: plant.plan' "$driver" check home plant.plan
 # shellcheck disable=SC2016
 expect 'nowhere to print' 3 '' '*kobdrieft: cannot write to standard output' bash -c '"$0" plan "cluster A" >/dev/full' "$driver"
 expect 'the program: no arguments' 0 '' 'verdict: it takes a cluster file and a plan file' "$root/target/bin/verdict"
 expect 'the program: no such file' 0 '' 'verdict: cannot read plant: No such file or directory' "$root/target/bin/verdict" 'cluster A' plant
 expect 'the program: a folder' 0 '' 'verdict: cannot read folder: Is a directory' "$root/target/bin/verdict" folder 'plan A'
+expect 'the program: a folder as plan' 0 '' 'verdict: cannot read folder: Is a directory' "$root/target/bin/verdict" home folder
+expect 'the program: no such plan' 0 '' 'verdict: cannot read plant: No such file or directory' "$root/target/bin/verdict" home plant
 
 expect 'nothing written' 0 "$before" '' files .
 

@@ -1,9 +1,10 @@
-//! Inputs set by hand on both sides of every limit, each with the outcome document 01 gives it.
+//! Inputs set by hand on both sides of every limit, each with the outcome that document 01, as
+//! amended, gives it.
 
 use crate::planner::BUFFER;
 use crate::records::{
     cluster_bytes, cluster_bytes_with, plan_bytes, state_length, Constraint, Move, Node, Room,
-    Step, Vm,
+    Step, Vm, PLAN_HEADER,
 };
 
 /// One input with its expected outcome. `check` is `None` for accepted, else number and step;
@@ -100,6 +101,25 @@ impl Edges {
         self.0.push(Edge { name, cluster, plan, buffer: BUFFER, check, build: None });
     }
 
+    /// A cluster's bytes beside no plan bytes, and beside the header of a plan of no steps: one
+    /// outcome for both, 0 for accepted. Then beside 6 plan bytes, which are 11 unless the
+    /// cluster itself is refused.
+    fn no_steps(&mut self, name: &str, cluster: &[u8], number: u8) {
+        let header = plan_bytes(&[]);
+        let cut = if matches!(number, 0 | 19) { 11 } else { number };
+        let plans = [("no plan bytes", 0, number), ("header", 7, number), ("6 plan bytes", 6, cut)];
+        for (kind, length, number) in plans {
+            self.0.push(Edge {
+                name: format!("{name}, {kind}"),
+                cluster: cluster.to_vec(),
+                plan: header[..length].to_vec(),
+                buffer: BUFFER,
+                check: (number != 0).then_some((number, 0)),
+                build: (1..=9).contains(&number).then_some(number),
+            });
+        }
+    }
+
     /// As `plan`, from steps.
     fn steps(
         &mut self,
@@ -124,6 +144,9 @@ pub fn edges() -> Vec<Edge> {
     target_sums(&mut edges);
     target_constraints(&mut edges);
     buffers(&mut edges);
+    plans_of_no_steps(&mut edges);
+    whole_clusters_without_steps(&mut edges);
+    short_plans(&mut edges);
     plan_headers(&mut edges);
     plan_counts(&mut edges);
     move_names(&mut edges);
@@ -431,7 +454,7 @@ fn target_constraints(e: &mut Edges) {
         e.0.push(Edge { name, cluster, plan, buffer, check: Some((9, 0)), build: Some(9) });
     };
     edge("9 before 10", plan_bytes(&[]), 0);
-    edge("9 before 11", vec![], BUFFER);
+    edge("9 before 11", plan_bytes(&[])[..6].to_vec(), BUFFER);
 }
 
 // ---------------------------------------------------------------- 10
@@ -450,15 +473,117 @@ fn buffers(e: &mut Edges) {
     }
 }
 
+// ---------------------------------------------------------------- no steps
+
+/// A cluster with everybody at home and cluster A, each whole and damaged in every way. What is
+/// wrong with the cluster comes first, then 19 if somebody is off target.
+fn plans_of_no_steps(e: &mut Edges) {
+    for (whose, room, whole) in [("home", at_home(), 0), ("A", cluster_a(), 19)] {
+        let good = cluster_bytes(&room);
+        let mut add = |name: &str, cluster: Vec<u8>, number| {
+            e.no_steps(&format!("{whose}, {name}"), &cluster, number);
+        };
+        add("whole", good.clone(), whole);
+        add("no cluster bytes", vec![], 1);
+        add("1 byte", good[..1].to_vec(), 1);
+        add("10 bytes", good[..10].to_vec(), 1);
+        add("version 0", changed(&good, |b| b[0] = 0), 2);
+        add("version 2", changed(&good, |b| b[0] = 2), 2);
+        add("length one more", changed(&good, |b| b[4] += 1), 3);
+        add("the last byte cut", changed(&good, cut), 3);
+        add("65,536 bytes", restated(&good, |b| b.resize(65_536, 0)), 3);
+        add("N 0", changed(&good, |b| b[6] = 0), 4);
+        add("N 65", changed(&good, |b| b[6] = 65), 4);
+        add("V 257", changed(&good, |b| (b[7], b[8]) = (1, 1)), 4);
+        add("C 129", changed(&good, |b| b[10] = 129), 4);
+        add("one byte over", restated(&good, |b| b.push(0)), 5);
+        add("one VM more than there is", changed(&good, |b| b[8] += 1), 5);
+        add("one constraint more than there is", changed(&good, |b| b[10] += 1), 5);
+        let vm_at = good.len() - 2 * 7;
+        add("memory 0", changed(&good, |b| b[vm_at..vm_at + 3].fill(0)), 6);
+        add("current N", changed(&good, |b| b[vm_at + 5] = 3), 6);
+        add("target N", changed(&good, |b| b[vm_at + 6] = 3), 6);
+        add("a constraint of length 0", cluster_bytes_with(&room, &[vec![]]), 7);
+        add("unknown kind", cluster_bytes_with(&room, &[vec![5, 0, 0]]), 7);
+        let twice = vec![4, 0, 0, 2, 1, 0, 1, 0];
+        add("a node in two groups", cluster_bytes_with(&room, &[twice]), 7);
+        let mut full = room.clone();
+        full.nodes[0].memory = 0;
+        add("target memory over", cluster_bytes(&full), 8);
+        let mut full = room.clone();
+        full.nodes[1].cpu = 0;
+        add("target CPU over", cluster_bytes(&full), 8);
+        let mut broken = |name: &str, constraint: Constraint| {
+            add(name, cluster_bytes(&Room { constraints: vec![constraint], ..room.clone() }), 9);
+        };
+        broken("target banned", ban(&[0], &[room.vms[0].target]));
+        broken("target out of a fence", fence(&[1], &[room.vms[0].target]));
+        broken("targets in two groups", latency(&[0, 1], &[&[0, 2], &[1]]));
+    }
+    let together = room(&at_home().nodes, &[vm(1, 1, 0, 0), vm(1, 1, 0, 0)], &[spread(&[0, 1])]);
+    e.no_steps("mates at home on one node", &cluster_bytes(&together), 9);
+}
+
+/// Clusters with none of the faults 1 to 9: accepted with everybody at home, else 19.
+fn whole_clusters_without_steps(e: &mut Edges) {
+    let mut add = |name: &str, room: &Room, number| e.no_steps(name, &cluster_bytes(room), number);
+    add("no VMs", &room(&[node(0, 0)], &[], &[]), 0);
+    add("no VMs on 64 nodes", &room(&vec![node(0, 0); 64], &[], &[]), 0);
+    let kept = [
+        ban(&[0], &[1, 2]),
+        fence(&[0, 1], &[0, 1]),
+        spread(&[0, 1]),
+        latency(&[0, 1], &[&[0, 1]]),
+    ];
+    add("every kind kept", &room(&at_home().nodes, &at_home().vms, &kept), 0);
+    add("a full node", &room(&[node(3, 2)], &[vm(1, 1, 0, 0), vm(2, 1, 0, 0)], &[]), 0);
+    let many = |away: Option<usize>| {
+        let mut room = room(&vec![node(256, 0); 2], &vec![vm(1, 0, 0, 0); 256], &[]);
+        away.into_iter().for_each(|vm| room.vms[vm].current = 1);
+        room
+    };
+    add("256 VMs at home", &many(None), 0);
+    add("the first of 256 off target", &many(Some(0)), 19);
+    add("the last of 256 off target", &many(Some(255)), 19);
+    let mut stuck = cluster_a();
+    stuck.nodes[2].memory = 1;
+    add("blocked", &stuck, 19);
+    let heap = room(&[node(1, 9), node(9, 9)], &[vm(1, 1, 0, 0), vm(4, 1, 0, 1)], &[]);
+    add("an overfull start", &heap, 19);
+    let from_banned = room(&at_home().nodes, &[vm(1, 1, 2, 0)], &[ban(&[0], &[2])]);
+    add("a start on a banned node", &from_banned, 19);
+}
+
 // ---------------------------------------------------------------- 11 to 14
+
+/// Every length from 1 byte to the header's, for clusters at home and not.
+fn short_plans(e: &mut Edges) {
+    let good = plan_bytes(&steps(&[&[(0, 2)], &[(0, 0)]]));
+    let header = plan_bytes(&[]);
+    for room in [at_home(), cluster_a()] {
+        for length in 1..PLAN_HEADER {
+            let states_itself = [1, 0, 0, 0, length as u8, 0];
+            let mut short = |name: &str, bytes: &[u8]| {
+                let plan = bytes[..length].to_vec();
+                e.plan(&format!("{length} bytes {name}"), &room, plan, Some((11, 0)));
+            };
+            short("of zeros", &[0; 6]);
+            short("of 255", &[255; 6]);
+            short("of a header", &header);
+            short("of a plan", &good);
+            short("that state so", &states_itself);
+        }
+        e.plan("7 bytes of zeros", &room, vec![0; 7], Some((12, 0)));
+        e.plan("7 bytes that state 6", &room, changed(&header, |b| b[4] = 6), Some((13, 0)));
+        e.plan("7 bytes that state 0", &room, changed(&header, |b| b[4] = 0), Some((13, 0)));
+    }
+}
 
 fn plan_headers(e: &mut Edges) {
     let home = at_home();
     let good = plan_bytes(&steps(&[&[(0, 2)], &[(0, 0)]]));
     let at = |number: u8| Some((number, 0));
     e.plan("away and back", &home, good.clone(), None);
-    e.plan("no plan bytes", &home, vec![], at(11));
-    e.plan("6 plan bytes", &home, good[..6].to_vec(), at(11));
     e.plan("6 plan bytes, version 2", &home, changed(&good[..6], |b| b[0] = 2), at(11));
     e.plan("7 plan bytes, version 0", &home, changed(&good[..7], |b| b[0] = 0), at(12));
     e.plan("7 plan bytes, length of the whole", &home, good[..7].to_vec(), at(13));

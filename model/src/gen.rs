@@ -757,11 +757,22 @@ fn flip(rng: &mut Rng, bytes: &mut [u8]) {
     }
 }
 
+/// Leaves 1 to 6 bytes of a plan record, as they were or with others in their place: fault 11.
+fn leave_too_few(rng: &mut Rng, bytes: &mut Vec<u8>) {
+    bytes.truncate(rng.range(1, PLAN_HEADER - 1));
+    match rng.below(6) {
+        0 => bytes.fill(0),
+        1 => bytes.fill_with(|| rng.draw() as u8),
+        2 if bytes.len() >= 5 => state_length(bytes),
+        _ => {}
+    }
+}
+
 /// Damages a plan record's bytes: faults 11 to 14, and now and then any other.
 pub fn damage_plan(rng: &mut Rng, bytes: &mut Vec<u8>) {
     let step_at = PLAN_HEADER;
     match rng.below(15) {
-        0 => bytes.truncate(rng.pick(&[0, 1, 5, 6])),
+        0 => leave_too_few(rng, bytes),
         1 => bytes[0] = rng.pick(&[0, 2, 255]),
         2 => bytes[4] = bytes[4].wrapping_add(rng.pick(&[1, 255])),
         3 => bytes[rng.pick(&[1, 2])] = rng.pick(&[1, 128, 255]),
@@ -853,8 +864,13 @@ pub fn sized_case(rng: &mut Rng, size: Size) -> Case {
     Case { cluster, plan, buffer }
 }
 
-/// A plan record for a room, now and then damaged.
+/// A plan record for a room, now and then damaged, or no bytes: most often where nothing needs
+/// moving.
 fn plan_case(rng: &mut Rng, room: &Room) -> Vec<u8> {
+    let all_home = Placement::current(room).out_of_place(room).is_empty();
+    if rng.chance(if all_home { 15 } else { 6 }) {
+        return Vec::new();
+    }
     let mut bytes = plan_bytes(&plan(rng, room));
     if rng.chance(15) {
         damage_plan(rng, &mut bytes);

@@ -1,4 +1,4 @@
-//! A plain reference model of document 01, written from that text alone.
+//! A plain reference model of document 01 as amended, written from its text alone.
 //!
 //! It favours being obviously right over being fast. Differential tests hold it beside the
 //! verified implementation; nothing here is shared with that implementation.

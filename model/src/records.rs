@@ -182,9 +182,13 @@ fn groups(rest: &mut &[u8], n: usize) -> Option<Vec<Vec<usize>>> {
     Some(groups)
 }
 
-/// Reads a plan record; the error is the refusal number, 11 to 14. This is shape only: whether
-/// VMs and nodes exist, and whether VMs rise, is left to the rules (fault 15).
+/// Reads a plan record; the error is the refusal number, 11 to 14. 0 bytes are a plan of no
+/// steps, so 11 is for 1 to 6 bytes. This is shape only: whether VMs and nodes exist, and
+/// whether VMs rise, is left to the rules (fault 15).
 pub fn parse_plan(bytes: &[u8]) -> Result<Vec<Step>, u8> {
+    if bytes.is_empty() {
+        return Ok(Vec::new());
+    }
     if bytes.len() < PLAN_HEADER {
         return Err(11);
     }
@@ -226,7 +230,8 @@ fn put(bytes: &mut Vec<u8>, value: u64, width: usize) {
     bytes.extend_from_slice(&value.to_be_bytes()[8 - width..]);
 }
 
-/// Writes a plan record. It tests nothing, so that generators may write faulty ones.
+/// Writes a plan record, its header also if there are no steps. It tests nothing, so that
+/// generators may write faulty ones.
 pub fn plan_bytes(steps: &[Step]) -> Vec<u8> {
     let length = PLAN_HEADER + steps.iter().map(|s| 2 + 2 * s.len()).sum::<usize>();
     let mut bytes = vec![1];

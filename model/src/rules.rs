@@ -244,7 +244,7 @@ pub fn plan_cost(room: &Room, steps: &[Step]) -> u64 {
 // ---------------------------------------------------------------- the checker
 
 /// Checks a plan for a cluster: 1 to 9, then 11 to 14 over the whole plan, then each step in
-/// turn by 15 to 18, then 19.
+/// turn by 15 to 18, then 19. A plan of 0 bytes has no steps, and so none of 11 to 18.
 pub fn check(cluster: &[u8], plan: &[u8]) -> Verdict {
     let room = match accepted_cluster(cluster) {
         Ok(room) => room,

@@ -1,8 +1,9 @@
 //! The generators reach every refusal and every answer, and the hand-set cases come out as
-//! document 01 says.
+//! document 01, as amended, says.
 
 use kobdrieft_model::edges::edges;
 use kobdrieft_model::gen::{cases, Case};
+use kobdrieft_model::rules::accepted_cluster;
 use kobdrieft_model::*;
 
 /// Builds into a buffer of the case's length; a refusal must leave every byte.
@@ -74,6 +75,34 @@ fn random_cases_reach_everything() {
     assert!(builds.iter().all(|&count| count >= 50), "{builds:?}");
 }
 
+/// Every length from 0 to 6 bytes comes up, beside clusters that are taken and that are not.
+#[test]
+fn random_plans_of_no_bytes_and_of_too_few() {
+    let mut no_bytes = [0; 20];
+    let mut too_few = [0; 7];
+    for Case { cluster, plan, .. } in cases(22, 40_000) {
+        match check(&cluster, &plan) {
+            Verdict::Accepted { cost } if plan.is_empty() => {
+                assert_eq!(cost, 0);
+                no_bytes[0] += 1;
+            }
+            Verdict::Refused { number, .. } if plan.is_empty() => {
+                no_bytes[usize::from(number)] += 1;
+            }
+            Verdict::Refused { number: 11, .. } => too_few[plan.len()] += 1,
+            _ => assert!(plan.len() >= 7 || accepted_cluster(&cluster).is_err()),
+        }
+    }
+    println!("no bytes, accepted then by number: {no_bytes:?}");
+    println!("11, by length: {too_few:?}");
+    for (number, &count) in no_bytes.iter().enumerate() {
+        assert_eq!(count > 0, number < 10 || number == 19, "{number}: {no_bytes:?}");
+    }
+    assert!(no_bytes[0] >= 200 && no_bytes[19] >= 200, "{no_bytes:?}");
+    assert!(no_bytes[1..10].iter().sum::<usize>() >= 200, "{no_bytes:?}");
+    assert!(too_few[0] == 0 && too_few[1..].iter().all(|&count| count >= 10), "{too_few:?}");
+}
+
 #[test]
 fn generators_repeat_themselves() {
     for (x, y) in cases(7, 200).zip(cases(7, 200)) {
@@ -87,7 +116,7 @@ fn records_survive_writing_and_reading() {
         if let Ok(room) = parse_cluster(&cluster) {
             assert_eq!(cluster_bytes(&room), cluster);
         }
-        if let Ok(steps) = parse_plan(&plan) {
+        if let (Ok(steps), false) = (parse_plan(&plan), plan.is_empty()) {
             assert_eq!(plan_bytes(&steps), plan);
         }
     }

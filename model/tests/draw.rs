@@ -376,13 +376,33 @@ fn off_target() {
 }
 
 #[test]
+fn nothing_to_move() {
+    let mut home = cluster_a();
+    home.vms.iter_mut().for_each(|vm| vm.current = vm.target);
+    let no_bytes = drawn(&home, &parse_plan(&[]).unwrap());
+    has(
+        &no_bytes,
+        &[
+            "<h1>0 steps, 0 moves, cost 0</h1>",
+            "The end is the target.",
+            "<b>accepted cost 0</b>",
+            "<h2>Start</h2>\n<p>Every VM is on its target.</p>",
+            "<h2>End</h2>\n<p>Every VM is on its target.</p>",
+        ],
+    );
+    assert_eq!(no_bytes, drawn(&home, &parse_plan(&plan_bytes(&[])).unwrap()));
+}
+
+#[test]
 fn a_target_that_is_refused() {
     let mut a = cluster_a();
     a.vms[0].target = 0;
-    let page = drawn(&a, &steps(&[&[(1, 0)]]));
     let why = format!("<b>refused 8 step 0</b>. {} The steps are drawn", reason(8));
-    has(&page, &[&why]);
-    assert!(!page.contains("<figure class=\"refused\">"));
+    for steps in [steps(&[&[(1, 0)]]), parse_plan(&[]).unwrap()] {
+        let page = drawn(&a, &steps);
+        has(&page, &[&why]);
+        assert!(!page.contains("<figure class=\"refused\">"));
+    }
 }
 
 #[test]

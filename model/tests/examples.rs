@@ -1,5 +1,5 @@
-//! The examples: their records are what their texts give, the planner and the checker say what
-//! stands beside them, and the page names each.
+//! The examples: their records are what their texts give, those without a text have none, the
+//! planner and the checker say what stands beside them, and the page names each.
 
 use kobdrieft_model::draw::{page, Whose};
 use kobdrieft_model::form::{read_cluster, read_plan};
@@ -33,14 +33,22 @@ fn names(ending: &str) -> BTreeSet<String> {
     files().into_iter().filter(|(_, e)| e == ending).map(|(name, _)| name).collect()
 }
 
+/// Whether a plan's record is what some text packs to. No bytes are not: a text without steps packs
+/// to a header. A damaged record is not, either.
+fn has_text(name: &str) -> bool {
+    let record = bytes(&format!("{name}.plan"));
+    !record.is_empty() && parse_plan(&record).is_ok()
+}
+
 #[test]
 fn every_example_is_whole() {
     assert!(names("room").len() >= 15);
     assert_eq!(names("cluster"), names("room"));
     assert_eq!(names("expected"), names("room"));
-    assert_eq!(names("plan"), names("steps"));
-    assert_eq!(names("verdict"), names("steps"));
-    assert!(names("steps").is_subset(&names("room")));
+    assert_eq!(names("verdict"), names("plan"));
+    assert!(names("plan").is_subset(&names("room")));
+    let with_text = names("plan").into_iter().filter(|name| has_text(name));
+    assert_eq!(names("steps"), with_text.collect());
     let known = ["room", "cluster", "expected", "steps", "plan", "verdict", "md", "sh"];
     assert!(files().iter().all(|(_, ending)| known.contains(&ending.as_str())), "{:?}", files());
 }
@@ -54,6 +62,19 @@ fn records_are_what_the_texts_give() {
     for name in names("steps") {
         let steps = read_plan(&bytes(&format!("{name}.steps"))).expect(&name);
         assert_eq!(plan_bytes(&steps), bytes(&format!("{name}.plan")), "{name}");
+    }
+}
+
+#[test]
+fn plans_without_a_text() {
+    for name in ["empty-home", "a-empty", "empty-overfull"] {
+        assert!(bytes(&format!("{name}.plan")).is_empty(), "{name}");
+    }
+    assert_eq!(bytes("a-cut.plan"), bytes("a.plan")[..6]);
+    let without = names("plan").into_iter().filter(|name| !has_text(name));
+    assert_eq!(without.collect::<Vec<_>>(), ["a-cut", "a-empty", "empty-home", "empty-overfull"]);
+    for name in ["a", "a-empty", "a-cut"] {
+        assert_eq!(bytes(&format!("{name}.cluster")), bytes("a.cluster"));
     }
 }
 
@@ -77,8 +98,12 @@ fn the_checker_says_what_is_expected() {
 fn every_plan_that_fits_is_drawn() {
     for name in names("plan") {
         let room = parse_cluster(&bytes(&format!("{name}.cluster"))).unwrap();
-        let steps = parse_plan(&bytes(&format!("{name}.plan"))).unwrap();
-        let other = text(&format!("{name}.verdict")).starts_with("refused 15 ");
+        let verdict = text(&format!("{name}.verdict"));
+        let Ok(steps) = parse_plan(&bytes(&format!("{name}.plan"))) else {
+            assert_eq!(verdict, "refused 11 step 0\n", "{name}");
+            continue;
+        };
+        let other = verdict.starts_with("refused 15 ");
         assert_eq!(page(&room, &steps, Whose::Model).is_err(), other, "{name}");
     }
 }

@@ -1,11 +1,15 @@
-//! The text forms: every undamaged record has one, both ways give back what went in, and what is
-//! not understood is refused at its line.
+//! The text forms: every undamaged record has one, both ways give back what went in (no plan bytes
+//! come back as the header of a plan of no steps), and what is not understood is refused at its
+//! line.
 
 use kobdrieft_model::edges::{cluster_a, edges, node, room as made, vm};
 use kobdrieft_model::form::{read_cluster, read_plan, write_cluster, write_plan, Fault};
 use kobdrieft_model::gen::{apart, cases, knot, ring, room, swaps, Rng, Size};
 use kobdrieft_model::puzzles::puzzle;
 use kobdrieft_model::*;
+
+/// The record of a plan of no steps.
+const HEADER: &[u8] = &[1, 0, 0, 0, 7, 0, 0];
 
 /// Record to text to record, and text to record to text.
 fn there_and_back(record: &[u8]) -> bool {
@@ -21,7 +25,8 @@ fn plan_there_and_back(record: &[u8]) -> bool {
     let Ok(steps) = parse_plan(record) else { return false };
     let text = write_plan(&steps);
     let again = read_plan(text.as_bytes()).unwrap_or_else(|f| panic!("{f:?} in\n{text}"));
-    assert_eq!(plan_bytes(&again), record, "{text}");
+    let written = if record.is_empty() { HEADER } else { record };
+    assert_eq!(plan_bytes(&again), written, "{text}");
     assert_eq!(write_plan(&again), text);
     true
 }
@@ -71,6 +76,16 @@ fn largest_records() {
     assert!(plan_there_and_back(&plan_bytes(&steps)));
     let steps = vec![vec![Move { vm: 0, to: 63 }; 256]; 4];
     assert!(plan_there_and_back(&plan_bytes(&steps)));
+}
+
+#[test]
+fn plans_of_no_steps() {
+    assert!(plan_there_and_back(&[]) && plan_there_and_back(HEADER));
+    assert_eq!(parse_plan(&[]), parse_plan(HEADER));
+    assert_eq!(write_plan(&parse_plan(&[]).unwrap()), "# no steps\n");
+    for length in 1..HEADER.len() {
+        assert!(!plan_there_and_back(&HEADER[..length]));
+    }
 }
 
 #[test]

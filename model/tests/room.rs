@@ -256,6 +256,92 @@ fn the_last_word_is_the_cost() {
     }
 }
 
+/// A file of 0 bytes is a plan of no steps, and everything said of it is what is said of the header.
+#[test]
+fn a_plan_file_of_no_bytes() {
+    let here = Folder::new("empty");
+    let home = "node 4 100 x2\nvm 3 50 from 0 to 0\nvm 2 50 from 1 to 1\n";
+    let full = "node 4 100 x2\nvm 3 50 from 0 to 1\nvm 2 50 from 1 to 1\n";
+    for (name, text) in [("home", home), ("a", A), ("full", full)] {
+        here.put(name, text);
+        here.prints(&format!("pack {name} {name}.cluster"));
+    }
+    here.put("none.txt", "# nothing to do\n");
+    here.put("none", "");
+    assert_eq!(here.prints("pack-plan none.txt header"), "");
+    assert_eq!(here.get("header"), [1, 0, 0, 0, 7, 0, 0]);
+    assert_eq!(here.prints("plan home.cluster planned"), "plan steps 0 moves 0 cost 0\n");
+    assert_eq!(here.get("planned"), here.get("header"));
+
+    for plan in ["none", "header"] {
+        assert_eq!(here.prints(&format!("check home.cluster {plan}")), "accepted cost 0\n");
+        here.refuses(&format!("check a.cluster {plan}"), 19, 0);
+        here.refuses(&format!("check full.cluster {plan}"), 8, 0);
+        let costs = [("home", String::new()), ("a", remark(19, 0)), ("full", remark(8, 0))];
+        for (cluster, said) in costs {
+            let (status, table, err) = here.room(&format!("cost {cluster}.cluster {plan}"));
+            assert_eq!((status, err), (0, said), "{cluster} {plan}");
+            assert_eq!(cells(&table), [HEADING, "cost 0"]);
+            here.prints(&format!("draw {cluster}.cluster {plan} {cluster}-{plan}.html"));
+        }
+        assert_eq!(here.prints(&format!("unpack-plan {plan}")), "# no steps\n");
+        here.prints(&format!("unpack-plan {plan} again.txt"));
+        here.prints("pack-plan again.txt again");
+        assert_eq!(here.get("again"), here.get("header"));
+    }
+    let shows = |page: &str, line: &str| {
+        let page = String::from_utf8(here.get(page)).unwrap();
+        assert!(page.contains(&format!("<b>{line}</b>")), "{line}");
+    };
+    for (cluster, line) in
+        [("home", "accepted cost 0"), ("a", "refused 19 step 0"), ("full", "refused 8 step 0")]
+    {
+        let pages = ["none", "header"].map(|plan| format!("{cluster}-{plan}.html"));
+        shows(&pages[0], line);
+        assert_eq!(here.get(&pages[0]), here.get(&pages[1]));
+        here.prints(&format!("draw {cluster}.cluster none given.html '{line}'"));
+        shows("given.html", line);
+        let why = format!(
+            "the verdicts differ: 'refused 11 step 0' is given, the model says '{line}'; \
+             nothing is drawn"
+        );
+        here.fails(&format!("draw {cluster}.cluster none x.html 'refused 11 step 0'"), 3, &why);
+    }
+}
+
+/// A file that is not there, or cannot be read, is never taken for one of 0 bytes.
+#[test]
+fn a_plan_file_that_cannot_be_read() {
+    let here = Folder::new("unread");
+    here.put("home", "node 1 1\nvm 1 1 from 0 to 0\n");
+    here.prints("pack home home.cluster");
+    fs::create_dir(here.0.join("folder")).unwrap();
+    for plan in ["missing", "folder"] {
+        for words in ["unpack-plan PLAN", "check home.cluster PLAN", "cost home.cluster PLAN"] {
+            let (status, out, err) = here.room(&words.replace("PLAN", plan));
+            let begin = format!("room: {plan}: cannot be read (");
+            assert!(status == 3 && out.is_empty() && err.starts_with(&begin), "{words}: {err}");
+        }
+        let (status, _, err) = here.room(&format!("draw home.cluster {plan} x.html"));
+        assert!(status == 3 && err.contains("cannot be read ("), "{err}");
+        assert!(!here.0.join("x.html").exists());
+    }
+    here.put("none", "");
+    let why = format!("none: refused with number 1: {}", reason(1));
+    for words in ["unpack none", "cost none none", "draw none none x.html"] {
+        here.fails(words, 2, &why);
+    }
+    here.refuses("check none none", 1, 0);
+    for length in 1..7 {
+        here.put("cut", &[1, 0, 0, 0, 7, 0][..length]);
+        here.refuses("check home.cluster cut", 11, 0);
+        let why = format!("cut: refused with number 11: {}", reason(11));
+        here.fails("unpack-plan cut", 2, &why);
+        here.fails("cost home.cluster cut", 2, &why);
+        here.fails("draw home.cluster cut x.html", 2, &why);
+    }
+}
+
 #[test]
 fn what_it_cannot_do() {
     let here = Folder::new("cannot");

@@ -7,7 +7,7 @@ use mathlib.Core.Logic.{_↔_, _⊎_}
 use mathlib.Core.Path.{_≡_}
 use lib.ListN.{length}
 use Rattle.records.specs.Room.{Room, roomOf, clusterCheck}
-use Rattle.records.specs.Plan.{Step, stepsOf, moveTotal, planBytes}
+use Rattle.records.specs.Plan.{Step, stepsOf, moveTotal, headerBytes, planBytes}
 use Rattle.records.specs.declared.faults.ClusterCheck.{ClusterCheck}
 use Rattle.rules.specs.Moments.{Placement, currentOf}
 use Rattle.rules.specs.Orders.{Run, EachBeginOfRun}
@@ -71,6 +71,8 @@ pub record Written (cluster plan : List ℕ) (made : Made) : Type 0 where
   -- how many steps there can be, by the number of VMs out of place at the current nodes
   pub none : awayCount (roomOf cluster) (currentOf (roomOf cluster)) ≡ 0 → stepsOf plan ≡ []
   pub short : 0 < awayCount (roomOf cluster) (currentOf (roomOf cluster)) → length (stepsOf plan) + 1 ≤ 2 * awayCount (roomOf cluster) (currentOf (roomOf cluster))
+  -- of no steps the header is still written (02, Job 8)
+  pub header : stepsOf plan ≡ [] → plan ≡ headerBytes 7 0
   -- the record fits the least buffer that is taken
   pub small : length plan ≤ leastBuffer
   -- the counts and the cost given are those of the record

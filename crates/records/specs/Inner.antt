@@ -80,9 +80,9 @@ stepsOk s at n moves =
 
 -- ---- where a walk over an undamaged record stands
 
--- the last n steps start at a place
+-- the last n steps start at a place; where there are none, the record may end before it
 pub record Steps (s : List ℕ) (at n : ℕ) : Type 0 where
-  pub ends : stepsEnd s at n ≡ length s
+  pub ends : 0 < n → stepsEnd s at n ≡ length s
   pub counts : all sized (stepsFrom s at n) ≡ true
   pub total : moveTotal (stepsFrom s at n) ≤ 1024
 

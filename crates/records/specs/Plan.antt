@@ -60,7 +60,8 @@ unfoldable pub stepsEnd : List ℕ → ℕ → ℕ → ℕ
 stepsEnd s at zero = at
 stepsEnd s at (suc n) = stepsEnd s (stepEnd s at) n
 
--- the steps that a record stands for: the first starts behind the header
+-- the steps that a record stands for: the first starts behind the header. Past the end the count reads 0, so that 0 bytes stand for no
+-- steps (`Laws.Steps.empty-steps`)
 unfoldable pub stepsOf : List ℕ → List Step
 stepsOf s = stepsFrom s 7 (stepCount s)
 
@@ -77,17 +78,18 @@ sized step = leb 1 (length step) && leb (length step) 256
 unfoldable pub shaped : List Step → Bool
 shaped steps = leb (length steps) 512 && (all sized steps && leb (moveTotal steps) 1024)
 
--- the first fault in checking order, 11 to 14
+-- the first fault in checking order, 11 to 14; 0 bytes are a whole record (02, Job 8)
 abbrev pub refusePlan : Bool → PlanFault → PlanCheck → PlanCheck
 refusePlan test fault rest = pick test (Damaged fault) rest
 
 unfoldable pub planCheck : List ℕ → PlanCheck
 planCheck s =
-    refusePlan (ltb (length s) 7) TooShort
+    pick (eqb (length s) 0) Whole
+    (refusePlan (ltb (length s) 7) TooShort
     (refusePlan (not (eqb (byteAt s 0) 1)) Version
     (refusePlan (not (eqb (be32 s 1) (length s))) Length
     (refusePlan (not (shaped (stepsOf s) && eqb (stepsEnd s 7 (stepCount s)) (length s))) Shape
-    Whole)))
+    Whole))))
 
 -- what reading a plan record answers: that fault, and for those who compute with the record that its elements are bytes
 pub record PlanRead (s : List ℕ) (r : PlanCheck) : Type 0 where

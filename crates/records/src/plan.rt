@@ -58,10 +58,13 @@ fn shape_sound(s: &[u8]) -> bool
     steps_sound(s, count)
 }
 
-// The first fault in checking order.
+// The first fault in checking order. 0 bytes are a plan of no steps.
 fn first_fault(s: &[u8]) -> PlanCheck
     ensures { λ r. ⌜ r ≡ planCheck (now (s .entry)) ⌝ }
 {
+    if s.len() == 0 {
+        return PlanCheck::Whole;
+    }
     if s.len() < 7 {
         return PlanCheck::Damaged(PlanFault::TooShort);
     }
@@ -93,12 +96,12 @@ pub fn stated_length(s: &[u8]) -> usize
     be32(s, 1) as usize
 }
 
-// How many steps an undamaged record has. The first starts behind the header, at 7.
+// How many steps an undamaged record has: none if it has 0 bytes. The first starts behind the header, at 7.
 pub fn step_count(s: &[u8]) -> usize
     requires { ⌜ planCheck (now s) ≡ PlanCheck.Whole ⌝ }
     ensures { λ r. ⌜ (r ≡ stepCount (now (s .entry))) × (r ≤ 512) ⌝ }
 {
-    count16(s, 5)
+    if 0 < s.len() { count16(s, 5) } else { 0 }
 }
 
 // How many moves the step at a place has.

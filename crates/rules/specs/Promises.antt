@@ -6,7 +6,7 @@ use mathlib.Core.Logic.{_↔_}
 use mathlib.Core.Path.{_≡_}
 use lib.ListN.{length, getD, take}
 use Rattle.records.specs.Room.{Room, nodeOf, roomOf, clusterCheck}
-use Rattle.records.specs.Plan.{Step, stepsOf, planCheck}
+use Rattle.records.specs.Plan.{Step, stepsOf, planCheck, headerBytes}
 use Rattle.records.specs.declared.faults.ClusterCheck.{ClusterCheck}
 use Rattle.records.specs.declared.faults.PlanCheck.{PlanCheck}
 use Rattle.rules.specs.Moments.{Placement, placeOf, currentOf, targetOf, after, Moment, tallyAt, within, firstMoment, atRest, settled}
@@ -158,5 +158,7 @@ pub record Checked (cluster plan : List ℕ) (r : ℕ) : Type 0 where
   -- no run of it takes a node past what it has, or brings mates together
   pub auditor : SaysGood r → StaysWithin (roomOf cluster) (currentOf (roomOf cluster)) (stepsOf plan)
   pub apart : SaysGood r → StaysApart (roomOf cluster) (currentOf (roomOf cluster)) (stepsOf plan)
+  -- 0 bytes get the verdict that a header with 0 steps gets (02, Job 8)
+  pub empty : plan ≡ [] → verdictOf cluster plan ≡ verdictOf cluster (headerBytes 7 0)
   -- sound, wherever it is said here, is sound in every order
   pub sound : (places : Placement) (step : Step) → (soundStep (roomOf cluster) places step ≡ true) ↔ SoundInOrders (roomOf cluster) places step

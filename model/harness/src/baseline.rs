@@ -280,8 +280,11 @@ impl Sums {
 
 // ---------------------------------------------------------------- the plan record
 
-/// The steps' bytes, if the plan has none of the faults 11 to 14.
+/// The steps' bytes, if the plan has none of the faults 11 to 14. 0 bytes are a plan of no steps.
 fn plan_shape(plan: &[u8]) -> Option<&[u8]> {
+    if plan.is_empty() {
+        return Some(plan);
+    }
     if plan.len() < 7 || plan[0] != 1 || stated_length(plan) != plan.len() {
         return None;
     }

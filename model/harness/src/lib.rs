@@ -5,6 +5,7 @@
 
 pub mod baseline;
 pub mod builds;
+pub mod empties;
 pub mod inputs;
 pub mod report;
 pub mod rooms;

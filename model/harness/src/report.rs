@@ -1,5 +1,6 @@
 //! Compares the library with the model, input by input, and keeps count of the outcomes.
 use crate::builds::Builds;
+use crate::empties::Empties;
 use crate::{check, check_lent, Lent};
 use kobdrieft_model as model;
 use std::fmt::Display;
@@ -25,6 +26,7 @@ pub struct Report {
     pub failed: u64,
     checks: Counts,
     longest: usize,
+    pub(crate) empties: Empties,
     pub(crate) builds: Builds,
 }
 
@@ -47,6 +49,9 @@ impl Report {
 
     fn count_check(&mut self, stream: Stream, verdict: u64, plan: &[u8]) {
         self.checks[outcome(verdict)][stream as usize] += 1;
+        if plan.is_empty() {
+            self.empties.count_file(stream, verdict);
+        }
         if outcome(verdict) == 0 && !matches!(stream, Stream::HandSet) {
             self.longest = self.longest.max(plan.len());
         }
@@ -65,7 +70,7 @@ impl Report {
     /// Fails once for each outcome that the generated inputs never had.
     pub fn expect_every_outcome(&mut self) {
         let missing = missing(&self.checks, "check", (0..=9).chain(11..=19));
-        let missing = [missing, self.builds.missing()].concat();
+        let missing = [missing, self.empties.missing(), self.builds.missing()].concat();
         for name in missing {
             println!("never generated: {name}");
             self.failed += 1;
@@ -76,6 +81,7 @@ impl Report {
     pub fn print(&self) {
         print_row("outcome", ["hand-set", "generated", "puzzles", "large"]);
         print_counts("check", &self.checks);
+        self.empties.print();
         self.builds.print();
         println!("longest accepted plan generated: {} bytes", self.longest);
         println!("{} passed, {} failed", self.passed, self.failed);
@@ -86,7 +92,7 @@ impl Report {
 pub(crate) const STRAY: &str = ": bytes written that are not the call's to write";
 
 /// The library's verdict on bytes between guards, and whether all those bytes stayed.
-fn check_watched(cluster: &[u8], plan: &[u8]) -> (u64, bool) {
+pub(crate) fn check_watched(cluster: &[u8], plan: &[u8]) -> (u64, bool) {
     let (mut cluster, mut plan) = (Lent::of(cluster), Lent::of(plan));
     let verdict = check_lent(&mut cluster, &mut plan);
     (verdict, cluster.untouched() && plan.untouched())
@@ -116,8 +122,8 @@ pub(crate) fn missing(
 
 fn outcome_name(call: &str, outcome: usize) -> String {
     match (outcome, call) {
-        (0, "check") => "accepted".to_string(),
-        (0, _) => "plan".to_string(),
+        (0, "build") => "plan".to_string(),
+        (0, _) => "accepted".to_string(),
         (BLOCKED, _) => "blocked".to_string(),
         _ => outcome.to_string(),
     }
@@ -134,7 +140,7 @@ pub(crate) fn print_counts(call: &str, counts: &Counts) {
     }
 }
 
-fn print_row<T: Display>(name: &str, columns: [T; 4]) {
+pub(crate) fn print_row<T: Display>(name: &str, columns: [T; 4]) {
     let [hand_set, generated, puzzles, large] = columns;
     println!("{name:<18}{hand_set:>10}{generated:>12}{puzzles:>10}{large:>10}");
 }

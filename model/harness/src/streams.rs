@@ -1,4 +1,5 @@
-//! Larger rooms with plans of many steps: the planner's own, and those spoilt late.
+//! Larger rooms with plans of many steps: the planner's own, and those spoilt late; and with no
+//! plan bytes.
 
 use kobdrieft_model::gen::{self, Rng, Size};
 use kobdrieft_model::planner::make_steps;
@@ -24,6 +25,7 @@ pub fn large(rng: &mut Rng) -> Large {
     for _ in 0..SPOILT {
         plans.push(plan_bytes(&spoilt_late(rng, &room, &steps)));
     }
+    plans.push(Vec::new());
     Large { cluster: cluster_bytes(&room), plans }
 }
 

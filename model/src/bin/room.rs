@@ -21,6 +21,7 @@ room cost CLUSTER PLAN           print how the cost builds up, a line for each s
 room draw CLUSTER PLAN PAGE [VERDICT]
                                  draw a plan as an HTML page; VERDICT is the line that the proved checker
                                  prints for it, else the page shows the model's own
+a PLAN of 0 bytes is read as a plan of no steps
 exit status: 0 plan or accepted, or done; 1 blocked; 2 refused, or a damaged record;
              3 wrong use, or a file that cannot be read or written
 ";

@@ -15,7 +15,7 @@ use Rattle.records.specs.Room.{Room, roomOf, clusterCheck}
 use Rattle.records.specs.Plan.{Step, moveTotal, stepsOf, shaped, planCheck, stepsBytes, headerBytes, planBytes}
 use Rattle.records.specs.declared.faults.ClusterCheck.{ClusterCheck}
 use Rattle.records.proofs.Laws.Cluster.{vms-most, vms-count}
-use Rattle.records.proofs.Laws.RoundTrip.{plan-length, plan-size, plan-whole, steps-of-plan, be32-back}
+use Rattle.records.proofs.Laws.RoundTrip.{plan-length, plan-size, plan-whole, steps-of-plan, header-is, be32-back}
 use Rattle.rules.specs.Moments.{Placement, placeOf, currentOf, targetOf, after}
 use Rattle.rules.specs.Orders.{Run}
 use Rattle.rules.specs.Rules.{targetCheck}
@@ -174,6 +174,7 @@ module _ (cluster before : List ℕ) (t : Taken cluster before) where
         apart = rw e (stays-apart (roomOf cluster) (currentOf (roomOf cluster)) (stepsFor (roomOf cluster)) steps-sound (current-length (roomOf cluster)));
         none = λ z. e ∙ empty (stepsFor (roomOf cluster)) (let b = budget-none (roomOf cluster) (currentOf (roomOf cluster)) z in omega arith);
         short = λ z. rw e (let b = budget-most (roomOf cluster) (currentOf (roomOf cluster)) z in omega arith);
+        header = λ z. p ∙ ap planBytes (sym e ∙ z) ∙ header-is;
         small = rw p (let l = plan-length (stepsFor (roomOf cluster)) in omega arith);
         steps = rw e;
         moves = rw e;

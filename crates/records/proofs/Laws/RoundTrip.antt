@@ -8,7 +8,7 @@ use native.Mathlib.Omega.{arith}
 use lib.ListN.{length, getD, take, drop, length-append}
 use lib.Seq.{getD-drop, drop-drop, drop-at}
 use lib.Dec.{ltb, leb, eqb}
-use borrow.Author.Tests.{le-ltb, eq-eqb, leb-true}
+use borrow.Author.Tests.{le-ltb, eq-eqb, ne-eqb, leb-true}
 use Rattle.records.specs.Base.{pick, all, sumOf}
 use Rattle.records.specs.Bytes.{byteAt, be16, be24, be32, bytes16, bytes32}
 use Rattle.records.specs.Room.{rows}
@@ -189,6 +189,7 @@ module _ (steps : List Step) (z : shaped steps ≡ true) where
       let a = size-is in
       let long : 7 ≤ length (planBytes steps) = omega arith in
       simp (
+        ne-eqb (length (planBytes steps)) 0 (λ q. omega arith),
         le-ltb (length (planBytes steps)) 7 long,
         eq-eqb (byteAt (planBytes steps) 0) 1 version-is,
         eq-eqb (be32 (planBytes steps) 1) (length (planBytes steps)) stated-is,
@@ -196,3 +197,16 @@ module _ (steps : List Step) (z : shaped steps ≡ true) where
         z,
         eq-eqb (stepsEnd (planBytes steps) 7 (stepCount (planBytes steps))) (length (planBytes steps)) end-is,
       )
+
+-- the record of no steps is a header with 0 steps
+pub header-is : planBytes [] ≡ headerBytes 7 0
+unfolding planBytes headerBytes bytes32 bytes16 stepsBytes
+header-is = refl
+
+pub header-whole : planCheck (headerBytes 7 0) ≡ Whole
+unfolding shaped moveTotal sumOf all
+header-whole = ap planCheck (sym header-is) ∙ plan-whole [] refl
+
+pub header-steps : stepsOf (headerBytes 7 0) ≡ []
+unfolding shaped moveTotal sumOf all
+header-steps = ap stepsOf (sym header-is) ∙ steps-of-plan [] refl

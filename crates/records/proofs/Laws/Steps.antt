@@ -5,6 +5,8 @@ use mathlib.Core.List.{List, [], _∷_}
 use mathlib.Core.Path.{_≡_, refl, sym, ap, _∙_}
 use native.Mathlib.Nat.{add-assoc, zero-add, add-zero}
 use native.Mathlib.Omega.{arith}
+use native.Mathlib.Decide.{ℕ-discrete}
+use mathlib.Core.Logic.{by-cases}
 use lib.ListN.{length, getD}
 use lib.Dec.{ltb, leb, eqb}
 use borrow.Author.Tests.{lt-ltb, le-ltb, le-leb, lt-leb, eq-eqb, ne-eqb, ltb-false, leb-true, eqb-true, not-false}
@@ -103,54 +105,74 @@ module _ (s : List ℕ) (count : ℕ) (e : count ≡ stepCount s) where
 -- ---- each refusal in its turn
 
 module _ (s : List ℕ) where
-  pub plan-short : length s < 7 → Damaged TooShort ≡ planCheck s
+  pub plan-empty : length s ≡ 0 → Whole ≡ planCheck s
   unfolding planCheck
-  plan-short h = simp (lt-ltb (length s) 7 h)
+  plan-empty h = simp (eq-eqb (length s) 0 h)
+
+  pub plan-short : (length s ≡ 0 → ⊥) → length s < 7 → Damaged TooShort ≡ planCheck s
+  unfolding planCheck
+  plan-short n h = simp (ne-eqb (length s) 0 n, lt-ltb (length s) 7 h)
 
   module _ (version : ℕ) (e1 : version ≡ byteAt s 0) (h1 : 7 ≤ length s) where
+    not-empty : eqb (length s) 0 ≡ false
+    not-empty = ne-eqb (length s) 0 (λ q. omega arith)
+
     pub plan-version : (version ≡ 1 → ⊥) → Damaged Version ≡ planCheck s
     unfolding planCheck
-    plan-version h2 = simp (le-ltb (length s) 7 h1, ne-eqb (byteAt s 0) 1 (λ q. h2 (e1 ∙ q)))
+    plan-version h2 = simp (not-empty, le-ltb (length s) 7 h1, ne-eqb (byteAt s 0) 1 (λ q. h2 (e1 ∙ q)))
 
     module _ (stated : ℕ) (e2 : stated ≡ be32 s 1) (h2 : version ≡ 1) where
       pub plan-length : (stated ≡ length s → ⊥) → Damaged Length ≡ planCheck s
       unfolding planCheck
-      plan-length h3 = simp (le-ltb (length s) 7 h1, eq-eqb (byteAt s 0) 1 (sym e1 ∙ h2), ne-eqb (be32 s 1) (length s) (λ q. h3 (e2 ∙ q)))
+      plan-length h3 = simp (not-empty, le-ltb (length s) 7 h1, eq-eqb (byteAt s 0) 1 (sym e1 ∙ h2), ne-eqb (be32 s 1) (length s) (λ q. h3 (e2 ∙ q)))
 
       module _ (shape : Bool) (e3 : shape ≡ (shaped (stepsOf s) && eqb (stepsEnd s 7 (stepCount s)) (length s))) (h3 : stated ≡ length s) where
         pub plan-shape : shape ≡ false → Damaged Shape ≡ planCheck s
         unfolding planCheck
-        plan-shape h4 = simp (le-ltb (length s) 7 h1, eq-eqb (byteAt s 0) 1 (sym e1 ∙ h2), eq-eqb (be32 s 1) (length s) (sym e2 ∙ h3), sym e3 ∙ h4)
+        plan-shape h4 = simp (not-empty, le-ltb (length s) 7 h1, eq-eqb (byteAt s 0) 1 (sym e1 ∙ h2), eq-eqb (be32 s 1) (length s) (sym e2 ∙ h3), sym e3 ∙ h4)
 
         pub plan-none : shape ≡ true → Whole ≡ planCheck s
         unfolding planCheck
-        plan-none h4 = simp (le-ltb (length s) 7 h1, eq-eqb (byteAt s 0) 1 (sym e1 ∙ h2), eq-eqb (be32 s 1) (length s) (sym e2 ∙ h3), sym e3 ∙ h4)
+        plan-none h4 = simp (not-empty, le-ltb (length s) 7 h1, eq-eqb (byteAt s 0) 1 (sym e1 ∙ h2), eq-eqb (be32 s 1) (length s) (sym e2 ∙ h3), sym e3 ∙ h4)
 
 -- ---- what an undamaged record has
+
+-- 0 bytes stand for no steps
+pub empty-count : (s : List ℕ) → length s ≤ 0 → 0 ≡ stepCount s
+unfolding be16
+empty-count [] e = refl
+empty-count (x ∷ xs) e = absurd (omega arith)
+
+pub empty-steps : (s : List ℕ) → length s ≡ 0 → stepsOf s ≡ []
+unfolding stepsOf stepsFrom
+empty-steps s e = rw (← empty-count s (omega arith)) refl
 
 passed : (test : Bool) (f : PlanFault) (rest : PlanCheck) → pick test (Damaged f) rest ≡ Whole → (test ≡ false) × (rest ≡ Whole)
 passed true f rest e = let z : _≡_ {A = ℕ} 0 1 = cc in absurd (omega arith)
 passed false f rest e = (refl, e)
 
 module _ (s : List ℕ) (w : planCheck s ≡ Whole) where
-  parts : (7 ≤ length s) × (shaped (stepsOf s) ≡ true) × (stepsEnd s 7 (stepCount s) ≡ length s)
-  unfolding planCheck
-  parts =
-      let a = passed (ltb (length s) 7) TooShort _ w in
-      let b = passed (not (eqb (byteAt s 0) 1)) Version _ (a .1) in
-      let c = passed (not (eqb (be32 s 1) (length s))) Length _ (b .1) in
-      let d = passed (not (shaped (stepsOf s) && eqb (stepsEnd s 7 (stepCount s)) (length s))) Shape Whole (c .1) in
-      let e = not-false (shaped (stepsOf s) && eqb (stepsEnd s 7 (stepCount s)) (length s)) (d .0) in
-      (ltb-false (length s) 7 (a .0), and-left (shaped (stepsOf s)) _ e, eqb-true _ _ (and-right (shaped (stepsOf s)) _ e))
+  -- if it has bytes
+  module _ (h : 0 < length s) where
+    parts : (7 ≤ length s) × (shaped (stepsOf s) ≡ true) × (stepsEnd s 7 (stepCount s) ≡ length s)
+    unfolding planCheck
+    parts =
+        let a = passed (ltb (length s) 7) TooShort _ (rw (ne-eqb (length s) 0 (λ q. omega arith)) at w) in
+        let b = passed (not (eqb (byteAt s 0) 1)) Version _ (a .1) in
+        let c = passed (not (eqb (be32 s 1) (length s))) Length _ (b .1) in
+        let d = passed (not (shaped (stepsOf s) && eqb (stepsEnd s 7 (stepCount s)) (length s))) Shape Whole (c .1) in
+        let e = not-false (shaped (stepsOf s) && eqb (stepsEnd s 7 (stepCount s)) (length s)) (d .0) in
+        (ltb-false (length s) 7 (a .0), and-left (shaped (stepsOf s)) _ e, eqb-true _ _ (and-right (shaped (stepsOf s)) _ e))
 
-  pub plan-long : 7 ≤ length s
-  plan-long = parts .0
+    pub plan-long : 7 ≤ length s
+    plan-long = parts .0
 
   pub plan-shaped : shaped (stepsOf s) ≡ true
-  plan-shaped = parts .1
+  unfolding shaped moveTotal sumOf all
+  plan-shaped = by-cases (ℕ-discrete (length s) 0) (λ e. rw (empty-steps s e) refl) (λ n. parts (omega arith) .1)
 
-  pub plan-ends : stepsEnd s 7 (stepCount s) ≡ length s
-  plan-ends = parts .2
+  pub plan-ends : 0 < stepCount s → stepsEnd s 7 (stepCount s) ≡ length s
+  plan-ends h = parts (by-cases (ℕ-discrete (length s) 0) (λ e. let z = empty-count s (omega arith) in omega arith) (λ n. omega arith)) .2
 
   pub steps-most : stepCount s ≤ 512
   unfolding shaped stepsOf
@@ -182,10 +204,13 @@ module _ (s : List ℕ) (at left : ℕ) (w : Steps s at left) (z : 0 < left) whe
   pub steps-cons : stepsFrom s at left ≡ stepAt s at ∷ stepsFrom s (stepEnd s at) (left - 1)
   steps-cons = ap (stepsFrom s at) less ∙ steps-suc s at (left - 1)
 
+  next-ends : stepsEnd s (stepEnd s at) (left - 1) ≡ length s
+  next-ends = sym (ap (stepsEnd s at) less ∙ end-suc s at (left - 1)) ∙ w .ends z
+
   pub steps-next : Steps s (stepEnd s at) (left - 1)
   steps-next =
       record {
-        ends = sym (ap (stepsEnd s at) less ∙ end-suc s at (left - 1)) ∙ w .ends;
+        ends = λ more. next-ends;
         counts = all-tail sized (stepAt s at) (stepsFrom s (stepEnd s at) (left - 1)) (rw steps-cons at (w .counts));
         total =
             let t = w .total in
@@ -195,7 +220,7 @@ module _ (s : List ℕ) (at left : ℕ) (w : Steps s at left) (z : 0 < left) whe
       }
 
   pub step-within : stepEnd s at ≤ length s
-  step-within = let e = steps-next .ends in let o = steps-on s (stepEnd s at) (left - 1) in omega arith
+  step-within = let e = next-ends in let o = steps-on s (stepEnd s at) (left - 1) in omega arith
 
   head-sized : (leb 1 (length (stepAt s at)) && leb (length (stepAt s at)) 256) ≡ true
   unfolding sized

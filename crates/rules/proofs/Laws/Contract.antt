@@ -1,11 +1,12 @@
--- The contract of `check` as one law: every two records, and the number that the verdict on them packs to, have what `Checked` promises.
+-- The contract of `check` as one law: every two records, and the number that the verdict on them packs to, have what `Checked` promises. Behind
+-- it what follows of two calls.
 use Prim.Native.Nat.{ℕ, suc, _<_, _^_}
-use mathlib.Core.List.{List}
+use mathlib.Core.List.{List, []}
 use mathlib.Core.Logic.{_↔_, Iff·trans}
-use mathlib.Core.Path.{_≡_, refl}
+use mathlib.Core.Path.{_≡_, refl, sym, ap, _∙_}
 use Rattle.records.specs.Bytes.{AreBytes}
 use Rattle.records.specs.Room.{roomOf}
-use Rattle.records.specs.Plan.{Step, stepsOf}
+use Rattle.records.specs.Plan.{Step, stepsOf, headerBytes}
 use Rattle.rules.specs.Moments.{Placement, currentOf}
 use Rattle.rules.specs.Rules.{stepCheck}
 use Rattle.rules.specs.Cost.{costOf}
@@ -20,7 +21,7 @@ use Rattle.rules.proofs.Laws.Returned.{tells-accepted, tells-refused, s
 use Rattle.rules.proofs.Laws.Runs.{sound-orders, stays-within}
 use Rattle.rules.proofs.Laws.Spreads.{stays-apart}
 use Rattle.rules.proofs.Laws.Costs.{cost-low}
-use Rattle.rules.proofs.Laws.Verdicts.{names-fault, destination-fault, fit-fault, mate-fault, first-fault, ends-away, current-length, accepted-steps, only-holds, exact-holds, step-refusal, end-refusal, step-most}
+use Rattle.rules.proofs.Laws.Verdicts.{names-fault, destination-fault, fit-fault, mate-fault, first-fault, ends-away, current-length, accepted-steps, only-holds, exact-holds, step-refusal, end-refusal, step-most, empty-as-header}
 
 beside : {A B C : Type 0} → A ↔ B → (C × A) ↔ (C × B)
 beside e = (λ x. (x .0, e .0 (x .1)), λ x. (x .0, e .1 (x .1)))
@@ -80,5 +81,10 @@ module _ (cluster plan : List ℕ) (b : AreBytes cluster) where
           stays-within (roomOf cluster) (currentOf (roomOf cluster)) (stepsOf plan) (accepted-steps cluster plan (toldCost r) (accepted g) .sound) (current-length (roomOf cluster));
       apart = λ g.
           stays-apart (roomOf cluster) (currentOf (roomOf cluster)) (stepsOf plan) (accepted-steps cluster plan (toldCost r) (accepted g) .sound) (current-length (roomOf cluster));
+      empty = λ e. rw e (empty-as-header cluster);
       sound = sound-orders (roomOf cluster);
     }
+
+-- two calls on one cluster, with a plan of 0 bytes and with a header of 0 steps, return the same number
+pub empty-returns : (cluster : List ℕ) (r q : ℕ) → Checked cluster [] r → Checked cluster (headerBytes 7 0) q → r ≡ q
+empty-returns cluster r q c d = c .is ∙ ap packed (c .empty refl) ∙ sym (d .is)

@@ -11,14 +11,15 @@ use lib.Dec.{eqb}
 use borrow.Author.Tests.{eqb-true, eqb-false}
 use Rattle.records.specs.Base.{pick, all}
 use Rattle.records.specs.Room.{Room, roomOf, clusterCheck}
-use Rattle.records.specs.Plan.{Step, stepCount, stepsOf, planCheck}
+use Rattle.records.specs.Plan.{Step, stepCount, stepsOf, planCheck, headerBytes}
 use Rattle.records.specs.declared.faults.ClusterCheck.{ClusterCheck}
 use Rattle.records.specs.declared.faults.PlanCheck.{PlanCheck}
 use Rattle.records.proofs.Laws.Bools.{and-left, and-right, and-both}
-use Rattle.records.proofs.Laws.Steps.{steps-length, steps-most}
+use Rattle.records.proofs.Laws.Steps.{plan-empty, empty-steps, steps-length, steps-most}
+use Rattle.records.proofs.Laws.RoundTrip.{header-whole, header-steps}
 use Rattle.rules.specs.Moments.{Placement, placeOf, currentOf, targetOf, after}
 use Rattle.rules.specs.Rules.{from, targetCheck, fitting, stepCheck, soundStep}
-use Rattle.rules.specs.Cost.{costOf}
+use Rattle.rules.specs.Cost.{costFrom, costOf}
 use Rattle.rules.specs.Verdict.{home, onCluster, onTarget, onPlan, onStep, stepsVerdict, planVerdict, verdictOf, faultStep}
 use Rattle.rules.specs.Promises.{afterAll, namedAll, soundAll, Shaped, EveryRun, FaultNames, FaultDestination, FaultFit, FaultMate, FirstAtFault, EndsAway}
 use Rattle.rules.specs.declared.faults.TargetCheck.{TargetCheck}
@@ -413,3 +414,19 @@ module _ (cluster plan : List ℕ) where
       let n = steps-length plan 7 (stepCount plan) in
       omega arith
   step-most Fault.OffTarget e = omega arith
+
+-- ---- a plan of no steps
+
+module _ (cluster : List ℕ) where
+  -- whatever its bytes: behind the faults of the cluster it is refused with 19, or accepted at no cost
+  pub no-steps : (plan : List ℕ) → planCheck plan ≡ PlanCheck.Whole → stepsOf plan ≡ [] →
+      verdictOf cluster plan ≡
+      onCluster (clusterCheck cluster)
+      (onTarget (targetCheck (roomOf cluster))
+      (pick (home (roomOf cluster) (currentOf (roomOf cluster))) (Verdict.Accepted 0) (Verdict.Refused Fault.OffTarget)))
+  unfolding verdictOf onPlan planVerdict stepsVerdict costOf costFrom
+  no-steps plan w e = rw (w, e) refl
+
+  -- 0 bytes and a header with 0 steps: the same verdict on every cluster, whatever its bytes
+  pub empty-as-header : verdictOf cluster [] ≡ verdictOf cluster (headerBytes 7 0)
+  empty-as-header = no-steps [] (sym (plan-empty [] refl)) (empty-steps [] refl) ∙ sym (no-steps (headerBytes 7 0) header-whole header-steps)

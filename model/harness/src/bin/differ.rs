@@ -1,6 +1,7 @@
 //! `differ SEED COUNT [--seconds N]`: holds the library beside the model on all hand-set inputs,
 //! on COUNT generated ones, on as many puzzles for the planner and on larger rooms, and fails on
-//! any difference.
+//! any difference. Each of their clusters is also checked beside no plan bytes and beside the
+//! header of a plan of no steps, which must get one verdict.
 use kobdrieft_harness::builds::buffer_length;
 use kobdrieft_harness::report::{Report, Stream};
 use kobdrieft_harness::streams::large;
@@ -54,6 +55,7 @@ fn read_words(words: &[String]) -> Option<Words> {
 fn hand_set(report: &mut Report) {
     for edge in edges() {
         report.check(Stream::HandSet, &edge.cluster, &edge.plan);
+        report.pair(Stream::HandSet, &edge.cluster);
         report.build(Stream::HandSet, &edge.cluster, edge.buffer);
     }
 }
@@ -70,6 +72,7 @@ fn generated(report: &mut Report, words: &Words) -> usize {
             return i;
         }
         report.check(Stream::Generated, &case.cluster, &case.plan);
+        report.pair(Stream::Generated, &case.cluster);
         planned(report, i, &case.cluster, &mut puzzles);
         if i % CASES_A_ROOM == 0 {
             large_room(report, &mut rooms);
@@ -83,7 +86,9 @@ fn planned(report: &mut Report, turn: usize, cluster: &[u8], puzzles: &mut Rng) 
     if turn.is_multiple_of(2) {
         report.build(Stream::Generated, cluster, buffer_length(turn / 2));
     }
-    report.build(Stream::Puzzles, &cluster_bytes(&puzzle(puzzles)), buffer_length(turn));
+    let puzzle = cluster_bytes(&puzzle(puzzles));
+    report.pair(Stream::Puzzles, &puzzle);
+    report.build(Stream::Puzzles, &puzzle, buffer_length(turn));
 }
 
 fn large_room(report: &mut Report, rng: &mut Rng) {
@@ -91,5 +96,6 @@ fn large_room(report: &mut Report, rng: &mut Rng) {
     for plan in &room.plans {
         report.check(Stream::Large, &room.cluster, plan);
     }
+    report.pair(Stream::Large, &room.cluster);
     report.build(Stream::Large, &room.cluster, BUFFER);
 }

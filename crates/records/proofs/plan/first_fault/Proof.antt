@@ -1,5 +1,5 @@
 use borrow.Author.Tests.{not-true, not-false}
-use Rattle.records.proofs.Laws.Steps.{plan-short, plan-version, plan-length, plan-shape, plan-none}
+use Rattle.records.proofs.Laws.Steps.{plan-empty, plan-short, plan-version, plan-length, plan-shape, plan-none}
 use borrow.Author.Needs.{needs}
 use Rattle.records.proofs.plan.first_fault.Statement.{statement}
 use Rattle.records.proofs.plan.first_fault.Tie as tie
@@ -10,13 +10,16 @@ use Rattle.records.proofs.bytes.byte.Reads as byte-reads
 use Rattle.records.proofs.plan.shape_sound.Reads as shape-sound-reads
 
 returns : tie.Need-returns
-returns c = search (needs, plan-short)
+returns c = search (needs, plan-empty)
+
+returns-2 : tie.Need-returns-2
+returns-2 c = search (needs, plan-short)
 
 byte-requires : tie.Need-byte-requires
 byte-requires c κs = search needs
 
-returns-2 : tie.Need-returns-2
-returns-2 c = search (needs, plan-version)
+returns-3 : tie.Need-returns-3
+returns-3 c = search (needs, plan-version)
 
 be32-requires : tie.Need-be32-requires
 be32-requires c κs = search needs
@@ -24,28 +27,29 @@ be32-requires c κs = search needs
 cast-stated : tie.Need-cast-stated
 cast-stated c = search needs
 
-returns-3 : tie.Need-returns-3
-returns-3 c = search (needs, plan-length)
+returns-4 : tie.Need-returns-4
+returns-4 c = search (needs, plan-length)
 
 shape-sound-requires : tie.Need-shape-sound-requires
 shape-sound-requires c κs = search needs
 
-returns-4 : tie.Need-returns-4
-returns-4 c = search (needs, plan-shape, not-true)
-
 returns-5 : tie.Need-returns-5
-returns-5 c = search (needs, plan-none, not-false)
+returns-5 c = search (needs, plan-shape, not-true)
+
+returns-6 : tie.Need-returns-6
+returns-6 c = search (needs, plan-none, not-false)
 
 pub first-fault-spec : {M : Type 1} → statement M
 first-fault-spec =
     tie.close
     (tie.spec
     returns
-    byte-requires
     returns-2
+    byte-requires
+    returns-3
     be32-requires
     cast-stated
-    returns-3
-    shape-sound-requires
     returns-4
-    returns-5)
+    shape-sound-requires
+    returns-5
+    returns-6)
