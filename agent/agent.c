@@ -113,13 +113,13 @@ static void plan_for(const struct cluster *cluster, struct built *built)
     built->len = kob_outcome_of(built->result) == KOB_REFUSED ? 0 : kob_plan_length(built->bytes);
 }
 
-/* Whether what was built can be read: a whole record with its header, or none if refused. */
+/* Whether what was built can be read: a whole record that names its sources, or none if refused. */
 static int readable(const struct built *built)
 {
     kob_reader reader;
     if (kob_outcome_of(built->result) == KOB_REFUSED)
         return 1;
-    return built->len > 0 && built->len <= sizeof built->bytes
+    return built->len > 0 && built->len <= sizeof built->bytes && built->bytes[0] == KOB_BUILD_VERSION
            && kob_read_start(&reader, built->bytes, built->len);
 }
 
@@ -146,44 +146,29 @@ static void print_made(uint64_t result)
     printf("steps %u, moves %u, cost %" PRIu64, kob_steps(result), kob_moves(result), kob_cost(result));
 }
 
-/* Where each VM is, a node for each number that a move can name. */
-static void find_places(const struct cluster *cluster, unsigned places[KOB_MAX_VMS])
+/* The sources are those that the record names; the checker has held them against the cluster. */
+static void print_moves(const struct built *built)
 {
-    for (unsigned vm = 0; vm < KOB_MAX_VMS; vm++)
-        if (!kob_vm_current(cluster->bytes, cluster->len, vm, &places[vm]))
-            places[vm] = 0;
-}
-
-/* A move's source is where its VM is then: a step moves a VM at most once. */
-static void print_moves(const struct cluster *cluster, const struct built *built)
-{
-    unsigned places[KOB_MAX_VMS];
-    unsigned moves, vm, destination;
+    unsigned moves, vm, source, destination;
     kob_reader reader;
-    find_places(cluster, places);
     kob_read_start(&reader, built->bytes, built->len);
-    for (unsigned step = 1; kob_read_step(&reader, &moves); step++) {
-        while (kob_read_move(&reader, &vm, &destination)) {
-            printf("%u %u %u %u\n", step, vm, places[vm], destination);
-            places[vm] = destination;
-        }
-    }
+    for (unsigned step = 1; kob_read_step(&reader, &moves); step++)
+        while (kob_read_move_from(&reader, &vm, &source, &destination))
+            printf("%u %u %u %u\n", step, vm, source, destination);
 }
 
-static int end_planned(const struct options *options, const struct cluster *cluster,
-                       const struct built *built)
+static int end_planned(const struct options *options, const struct built *built)
 {
     if (!write_plan(options->plan, built))
         return USE_OR_FILE;
     printf("agent: plan: ");
     print_made(built->result);
     printf("; written to %s\n", options->plan);
-    print_moves(cluster, built);
+    print_moves(built);
     return PLANNED;
 }
 
-static int end_blocked(const struct options *options, const struct cluster *cluster,
-                       const struct built *built)
+static int end_blocked(const struct options *options, const struct built *built)
 {
     if (options->keep_blocked && !write_plan(options->plan, built))
         return USE_OR_FILE;
@@ -193,7 +178,7 @@ static int end_blocked(const struct options *options, const struct cluster *clus
         printf("; these steps written to %s\n", options->plan);
     else
         printf("; nothing written\n");
-    print_moves(cluster, built);
+    print_moves(built);
     return BLOCKED;
 }
 
@@ -218,9 +203,9 @@ static int end(const struct options *options, const struct cluster *cluster, con
         return end_disagree(built);
     switch (kob_outcome_of(built->result)) {
     case KOB_PLAN:
-        return end_planned(options, cluster, built);
+        return end_planned(options, built);
     case KOB_BLOCKED:
-        return end_blocked(options, cluster, built);
+        return end_blocked(options, built);
     default:
         return end_refused(built);
     }

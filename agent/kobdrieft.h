@@ -11,7 +11,7 @@
  *
  * Threads. There is no state: any number of threads may call at once, each with an `out` of its own.
  *
- * Stack. Measured on full clusters, x86-64: `kobdrieft_check` takes 34,095 bytes (512 steps), `kobdrieft_build`
+ * Stack. Measured on full clusters, x86-64: `kobdrieft_check` takes 34,127 bytes (512 steps), `kobdrieft_build`
  * 119,215 (1 step) and 119,127 (500 steps): it does not grow with the steps. Give a thread KOB_CHECK_STACK or
  * KOB_BUILD_STACK, and what it needs itself.
  *
@@ -24,18 +24,18 @@
 #include <stdint.h>
 
 /* Grows whenever this interface changes, or what its calls answer. */
-#define KOBDRIEFT_VERSION 2
+#define KOBDRIEFT_VERSION 3
 
 #ifdef __cplusplus
 extern "C" {
 #endif
 
-/* The verdict on a plan record for a cluster record. A plan of 0 bytes is one of no steps, as a header with 0
- * steps is: do not lend a plan whose file could not be read. */
+/* The verdict on a plan record of version 1 or 2 for a cluster record. A plan of 0 bytes is one of no steps,
+ * as a header with 0 steps is: do not lend a plan whose file could not be read. */
 uint64_t kobdrieft_check(const uint8_t *cluster, size_t cluster_len, const uint8_t *plan, size_t plan_len);
 
 /* Plans for a cluster record. Of a plan and of blocked, the steps made stand as a plan record at the front
- * of `out`, and the bytes behind it are as they were; a refusal changes no byte. */
+ * of `out`, of version 2, and the bytes behind it are as they were; a refusal changes no byte. */
 uint64_t kobdrieft_build(const uint8_t *cluster, size_t cluster_len, uint8_t *out, size_t out_len);
 
 #ifdef __cplusplus
@@ -51,8 +51,9 @@ uint64_t kobdrieft_build(const uint8_t *cluster, size_t cluster_len, uint8_t *ou
 #define KOB_MAX_STEP_MOVES 256       /* in one step */
 #define KOB_MAX_MOVES 1024           /* in all steps of a plan together */
 #define KOB_MAX_CLUSTER_BYTES 65535
-#define KOB_MAX_PLAN_BYTES 3079
-#define KOB_BUILD_BUFFER 2051        /* `kobdrieft_build` refuses a shorter `out` */
+#define KOB_MAX_PLAN_BYTES 4103      /* in version 2; 3,079 in version 1 */
+#define KOB_BUILD_BUFFER 2562        /* `kobdrieft_build` refuses a shorter `out` */
+#define KOB_BUILD_VERSION 2          /* of the plan record that `kobdrieft_build` writes */
 
 #define KOB_CHECK_STACK (40 * 1024)  /* `kobdrieft_check` takes less than this */
 #define KOB_BUILD_STACK (128 * 1024) /* `kobdrieft_build` takes less than this */
@@ -71,13 +72,13 @@ static inline kob_outcome kob_outcome_of(uint64_t result)
     return (kob_outcome)(result >> 62);
 }
 
-/* A refusal's number, 1 to 19; 0 if the result is no refusal. */
+/* A refusal's number, 1 to 19 or 27; 0 if the result is no refusal. */
 static inline unsigned kob_refusal_number(uint64_t result)
 {
     return kob_outcome_of(result) == KOB_REFUSED ? (unsigned)(result >> 16 & 0xff) : 0;
 }
 
-/* The step at fault, from 1, of the numbers 15 to 18; 0 of all others. */
+/* The step at fault, from 1, of the numbers 15 to 18 and 27; 0 of all others. */
 static inline unsigned kob_refusal_step(uint64_t result)
 {
     return kob_outcome_of(result) == KOB_REFUSED ? (unsigned)(result & 0xffff) : 0;
@@ -119,6 +120,7 @@ typedef enum {
     KOB_FAULT_PLAN_LENGTH = 13,
     KOB_FAULT_PLAN_SHAPE = 14,
     KOB_FAULT_MISNAMED = 15,
+    KOB_FAULT_ELSEWHERE = 27, /* of a plan of version 2 only; tested between 15 and 16 */
     KOB_FAULT_FORBIDDEN = 16,
     KOB_FAULT_MISFIT = 17,
     KOB_FAULT_MATE = 18,
@@ -199,11 +201,11 @@ static inline int kob_vm_current(const uint8_t *cluster, size_t cluster_len, uns
 /* ---- reading a plan record
  *
  *     kob_reader reader;
- *     unsigned moves, vm, destination;
+ *     unsigned moves, vm, source, destination;
  *     if (!kob_read_start(&reader, bytes, len))
  *         ... the record is damaged
  *     while (kob_read_step(&reader, &moves))
- *         while (kob_read_move(&reader, &vm, &destination))
+ *         while (kob_read_move_from(&reader, &vm, &source, &destination))
  *             ... the next move of this step
  *
  * Any bytes may be read, and any pointer with a length of 0. No byte outside them is looked at, none is
@@ -229,7 +231,7 @@ typedef struct {
 /* The bytes that a move takes in a record of this version; 0 if there is no such version. */
 static inline unsigned kob_move_bytes(unsigned version)
 {
-    return version == 1 ? 2 : 0;
+    return version == 1 ? 2 : version == 2 ? 3 : 0;
 }
 
 /* Ends the reading between two steps: no step is left. */
@@ -278,16 +280,30 @@ static inline int kob_read_step(kob_reader *reader, unsigned *moves)
     return 1;
 }
 
-/* Gives the next move of this step: a VM, and the node it goes to. Returns 0 if the step has no more. */
-static inline int kob_read_move(kob_reader *reader, unsigned *vm, unsigned *destination)
+/* The source of a move that names none. No node has this number. */
+#define KOB_NO_SOURCE 256
+
+/* Gives the next move of this step: a VM, the node that the move names as its source, and the node it goes
+ * to. In version 1 the source is KOB_NO_SOURCE. Returns 0 if the step has no more. Whether the VM is on that
+ * source when the step starts is what kob_check says: if not, it refuses with 27. */
+static inline int kob_read_move_from(kob_reader *reader, unsigned *vm, unsigned *source,
+                                     unsigned *destination)
 {
     if (reader->moves == 0)
         return 0;
     *vm = reader->bytes[reader->at];
+    *source = reader->move_bytes == 3 ? reader->bytes[reader->at + 1] : KOB_NO_SOURCE;
     reader->at += reader->move_bytes;
     *destination = reader->bytes[reader->at - 1];
     reader->moves--;
     return 1;
+}
+
+/* The same without the source. */
+static inline int kob_read_move(kob_reader *reader, unsigned *vm, unsigned *destination)
+{
+    unsigned source;
+    return kob_read_move_from(reader, vm, &source, destination);
 }
 
 /* Whether the record is whole; once kob_read_step gave 0 this tells its end from damage. */

@@ -24,10 +24,11 @@ struct record {
 /* Appends a number of so many bytes, big-endian. */
 void put(struct record *record, unsigned bytes, uint32_t number);
 
-/* Begins a plan record with so many steps; its length is not stated yet. */
-void put_plan(struct record *plan, uint32_t steps);
+/* Begins a plan record of a version with so many steps; its length is not stated yet. */
+void put_plan(struct record *plan, uint32_t version, uint32_t steps);
 
-void put_move(struct record *plan, uint32_t vm, uint32_t destination);
+/* Appends a move, without its source if the record is of version 1. */
+void put_move(struct record *plan, uint32_t vm, uint32_t source, uint32_t destination);
 
 /* States the whole length. */
 void finish(struct record *record);
@@ -38,15 +39,16 @@ uint32_t draw(void);
 /* Changes one to three bytes. */
 void damage(uint8_t *bytes, size_t len);
 
-/* Document 01's cluster A, and the plan for it: 3 steps, cost 16. */
+/* Document 01's cluster A, and the plan for it, 3 steps, cost 16: as it is built, and in version 1. */
 extern const uint8_t cluster_a[40];
-extern const uint8_t plan_a[19];
+extern const uint8_t plan_a[22];
+extern const uint8_t plain_a[19];
 
 /* Most nodes, VMs, constraints; 52,043 bytes. VM i goes from node i mod 64 to the next. */
 void full_room(struct record *cluster);
 
-/* A plan for it with most steps and most moves, 3,079 bytes, and its cost. */
-void full_plan(struct record *plan);
+/* A plan for it with most steps and most moves, and its cost: 4,103 bytes in version 2, 3,079 in version 1. */
+void full_plan(struct record *plan, uint32_t version);
 #define FULL_PLAN_COST 165251
 
 /* Most nodes and VMs, planned in CHAIN_STEPS steps of one move. */

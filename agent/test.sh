@@ -318,7 +318,7 @@ more_builds() {
   # shellcheck disable=SC2016
   sed -n '/^```c$/,/^```$/p' "$here/README.md" | sed '1d;$d' >"$work/example.c"
   expect "the example" "$cc" "${strict[@]}" "$work/example.c" "${link[@]}" -o "$work/example"
-  expect "the example on A" example_says $'steps 3, moves 3, accepted\n1: VM 0 to 2\n2: VM 1 to 0\n3: VM 0 to 1' "$work/a"
+  expect "the example on A" example_says $'steps 3, moves 3, accepted\n1: VM 0 from 0 to 2\n2: VM 1 from 1 to 0\n3: VM 0 from 2 to 1' "$work/a"
   expect "the example, blocked" example_says 'steps 0, moves 0, blocked' "$work/stuck"
   expect "the example, refused" example_says "$(text_of 6)" "$work/damaged"
   group "threads and example: built"
@@ -351,11 +351,12 @@ static bool refuses_nothing()
 
 static bool reads_a_plan()
 {
-    const unsigned char plan[] = {1, 0, 0, 0, 11, 0, 1, 0, 1, 7, 9};
+    const unsigned char plan[] = {2, 0, 0, 0, 15, 0, 1, 0, 2, 7, 8, 9, 10, 11, 12};
     kob_reader reader;
-    unsigned moves, vm, destination;
+    unsigned moves, vm, source, destination;
     return kob_read_start(&reader, plan, sizeof plan) && kob_read_step(&reader, &moves)
-           && kob_read_move(&reader, &vm, &destination) && vm == 7 && destination == 9
+           && kob_read_move_from(&reader, &vm, &source, &destination) && vm == 7 && source == 8
+           && destination == 9 && kob_read_move(&reader, &vm, &destination) && vm == 10 && destination == 12
            && !kob_read_step(&reader, &moves) && kob_read_whole(&reader);
 }
 
@@ -392,13 +393,13 @@ padded() {
 files() {
   local nodes='0000040064 0000040064' vms='0000030032 00 01 0000020032 01 00'
   record "$work/a" "01 00000028 0003 0002 0000 $nodes 0000040064 $vms"
-  record "$work/plan" '01 00000013 0003 0001 00 02 0001 01 00 0001 00 01'
+  record "$work/plan" '02 00000016 0003 0001 00 00 02 0001 01 01 00 0001 00 02 01'
   record "$work/stuck" "01 00000028 0003 0002 0000 $nodes 0000010064 $vms"
   record "$work/five" "01 00000028 0003 0002 0000 0000050064 0000050064 0000050064 $vms"
   record "$work/half" '01 0000002f 0003 0003 0000 0000040064 0000020064 0000010064
     000002000a 02 00 000002000a 01 00 000002000a 00 01'
-  record "$work/half-plan" '01 0000000b 0001 0001 00 00'
-  record "$work/no-steps" '01 00000007 0000'
+  record "$work/half-plan" '02 0000000c 0001 0001 00 02 00'
+  record "$work/no-steps" '02 00000007 0000'
   record "$work/damaged" "01 00000028 0003 0002 0000 $nodes 0000040064 0000000032 00 01 0000020032 01 00"
   record "$work/overfull" "01 00000028 0003 0002 0000 0000010064 0000040064 0000040064 $vms"
   padded "$work/long" "01 00000028 0003 0002 0000 $nodes 0000040064 $vms" 70000
@@ -527,7 +528,7 @@ agents() {
 wrong() {
   local i
   agent=$work/wrong
-  for i in 1 2 3 4 5 6 7 8 9 10; do
+  for i in 1 2 3 4 5 6 7 8 9 10 11; do
     expect "wrong library $i" "$cc" "${strict[@]}" "${sanitize[@]}" -DWRONG=$i "$here/agent.c" \
       "$here/test_wrong.c" -o "$agent"
     expect "disagreement $i" keeps 5 'planner and checker disagree' --keep-blocked "$work/a"

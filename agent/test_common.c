@@ -34,7 +34,9 @@ const uint8_t cluster_a[40] = {
     0, 0, 3, 0, 50, 0, 1, 0, 0, 2, 0, 50, 1, 0         /* VM 0 from 0 to 1, VM 1 from 1 to 0 */
 };
 
-const uint8_t plan_a[19] = {1, 0, 0, 0, 19, 0, 3, 0, 1, 0, 2, 0, 1, 1, 0, 0, 1, 0, 1};
+const uint8_t plan_a[22] = {2, 0, 0, 0, 22, 0, 3, 0, 1, 0, 0, 2, 0, 1, 1, 1, 0, 0, 1, 0, 2, 1};
+
+const uint8_t plain_a[19] = {1, 0, 0, 0, 19, 0, 3, 0, 1, 0, 2, 0, 1, 1, 0, 0, 1, 0, 1};
 
 /* ---- writing records */
 
@@ -76,17 +78,19 @@ void finish(struct record *record)
     record->len = end;
 }
 
-void put_plan(struct record *plan, uint32_t steps)
+void put_plan(struct record *plan, uint32_t version, uint32_t steps)
 {
     plan->len = 0;
-    put(plan, 1, 1);
+    put(plan, 1, version);
     put(plan, 4, 0);
     put(plan, 2, steps);
 }
 
-void put_move(struct record *plan, uint32_t vm, uint32_t destination)
+void put_move(struct record *plan, uint32_t vm, uint32_t source, uint32_t destination)
 {
     put(plan, 1, vm);
+    if (plan->bytes[0] != 1)
+        put(plan, 1, source);
     put(plan, 1, destination);
 }
 
@@ -143,17 +147,18 @@ void full_room(struct record *cluster)
 }
 
 /* First all VMs but VM 0 go home. Then VM 0 goes to and fro, 511 times, and VM 1 with it 258 times. */
-void full_plan(struct record *plan)
+void full_plan(struct record *plan, uint32_t version)
 {
-    put_plan(plan, KOB_MAX_STEPS);
+    put_plan(plan, version, KOB_MAX_STEPS);
     put(plan, 2, 255);
     for (uint32_t i = 1; i < KOB_MAX_VMS; i++)
-        put_move(plan, i, (i + 1) % 64);
+        put_move(plan, i, i % 64, (i + 1) % 64);
     for (uint32_t i = 0; i < KOB_MAX_STEPS - 1; i++) {
+        uint32_t to = i % 2 == 0 ? 1 : 0;
         put(plan, 2, i < 258 ? 2 : 1);
-        put_move(plan, 0, i % 2 == 0 ? 1 : 0);
+        put_move(plan, 0, 1 - to, to);
         if (i < 258)
-            put_move(plan, 1, i % 2 == 0 ? 3 : 2);
+            put_move(plan, 1, 3 - to, 2 + to);
     }
     finish(plan);
 }

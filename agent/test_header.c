@@ -48,7 +48,7 @@ static void test_unpackers(void)
     expect(kob_cost(refusal) == 0, "a refusal has no cost");
     expect(kob_outcome_of(0) == KOB_PLAN && kob_cost(0) == 0 && kob_steps(0) == 0, "the empty plan");
     expect(kob_cost(16) == 16 && kob_steps(16) == 0 && kob_moves(16) == 0, "an accepted plan");
-    expect(kob_plan_length(plan_a) == 19, "length in a header");
+    expect(kob_plan_length(plan_a) == 22, "length in a header");
     expect(kob_plan_length((const uint8_t *)"\1\1\2\3\4") == 0x01020304, "length in big-endian");
     group("unpackers");
 }
@@ -61,18 +61,23 @@ static int is_line(const char *text)
 
 static void test_texts(void)
 {
-    for (unsigned number = 0; number <= 19; number++) {
+    for (unsigned number = 0; number <= KOB_FAULT_ELSEWHERE; number++) {
+        const char *text = kob_fault_text(number);
         int differs = 1;
         for (unsigned other = 0; other < number; other++)
-            differs = differs && strcmp(kob_fault_text(number), kob_fault_text(other)) != 0;
-        expect(is_line(kob_fault_text(number)) && differs, "a text for each number");
+            differs = differs && strcmp(text, kob_fault_text(other)) != 0;
+        if (number <= KOB_FAULT_OFF_TARGET || number == KOB_FAULT_ELSEWHERE)
+            expect(is_line(text) && differs, "a text for each number");
+        else
+            expect(strcmp(text, "Unknown number.") == 0, "no text for a number between 19 and 27");
     }
     expect(strstr(kob_fault_text(KOB_FAULT_CLUSTER_SHORT), "11 bytes") != NULL, "text 1");
-    expect(strstr(kob_fault_text(KOB_FAULT_BUFFER_SHORT), "2,051") != NULL, "text 10");
+    expect(strstr(kob_fault_text(KOB_FAULT_BUFFER_SHORT), "2,562") != NULL, "text 10");
     expect(strstr(kob_fault_text(KOB_FAULT_OFF_TARGET), "target") != NULL, "text 19");
+    expect(strstr(kob_fault_text(KOB_FAULT_ELSEWHERE), "source") != NULL, "text 27");
     expect(strcmp(kob_fault_text(256), "Unknown number.") == 0, "text of 256");
     expect(strcmp(kob_fault_text(~0u), "Unknown number.") == 0, "text of the largest number");
-    expect(KOBDRIEFT_VERSION == 2, "the interface's version");
+    expect(KOBDRIEFT_VERSION == 3, "the interface's version");
     group("texts");
 }
 
@@ -98,13 +103,16 @@ static void test_empty(void)
 /* ---- a plan of 0 bytes: one of no steps, on every cluster */
 
 static const uint8_t no_steps[] = {1, 0, 0, 0, 7, 0, 0};
+static const uint8_t no_steps_2[] = {2, 0, 0, 0, 7, 0, 0};
 
-/* Whether 0 bytes get the verdict of a header with 0 steps. `number` is set to its refusal's number, or 0. */
+/* Whether 0 bytes get the verdict of a header with 0 steps, of either version. `number` is set to its
+ * refusal's number, or 0. */
 static int as_header(const uint8_t *cluster, size_t len, unsigned *number)
 {
     uint64_t verdict = kob_check(cluster, len, NULL, 0);
     *number = kob_refusal_number(verdict);
-    return verdict == kob_check(cluster, len, no_steps, sizeof no_steps);
+    return verdict == kob_check(cluster, len, no_steps, sizeof no_steps)
+           && verdict == kob_check(cluster, len, no_steps_2, sizeof no_steps_2);
 }
 
 /* A with one byte of each value, whole and cut behind that byte; `hit` counts the numbers. */
@@ -135,8 +143,10 @@ static void test_no_plan(void)
     home[39] = 1; /* VM 1's */
     expect(kob_check(home, sizeof home, NULL, 0) == 0, "at home: accepted at cost 0");
     expect(as_header(home, sizeof home, &number), "at home: as a header");
-    for (size_t len = 1; len < sizeof no_steps; len++)
+    for (size_t len = 1; len < sizeof no_steps; len++) {
         expect(kob_check(home, sizeof home, no_steps, len) == refused(11, 0), "at home: 1 to 6 bytes");
+        expect(kob_check(home, sizeof home, no_steps_2, len) == refused(11, 0), "at home: version 2");
+    }
     expect(changed_as_header(hit), "A, a byte changed: as a header");
     expect(hit[1] && hit[2] && hit[3] && hit[4] && hit[5] && hit[6], "damaged clusters among them");
     expect(hit[8] && hit[19], "a target refused, and VMs off their target");
@@ -171,8 +181,9 @@ static void test_build_a(void)
     uint8_t *out = filled(KOB_BUILD_BUFFER);
     uint64_t result = kob_build(cluster, sizeof cluster_a, out, KOB_BUILD_BUFFER);
     expect(result == made(KOB_PLAN, 3, 3, 16), "A: a plan of 3 steps, 3 moves, cost 16");
-    expect(memcmp(out, plan_a, sizeof plan_a) == 0, "A: the record of 19 bytes");
-    expect(all_are(out + 19, KOB_BUILD_BUFFER - 19, FILL), "A: the bytes behind it stay");
+    expect(out[0] == KOB_BUILD_VERSION, "A: the version of the record");
+    expect(memcmp(out, plan_a, sizeof plan_a) == 0, "A: the record of 22 bytes");
+    expect(all_are(out + 22, KOB_BUILD_BUFFER - 22, FILL), "A: the bytes behind it stay");
     expect(memcmp(cluster, cluster_a, sizeof cluster_a) == 0, "A: the cluster stays");
     expect(kob_check(cluster, sizeof cluster_a, out, kob_plan_length(out)) == 16, "A: accepted at 16");
     expect(kob_check(cluster, sizeof cluster_a, out, KOB_BUILD_BUFFER) == refused(13, 0), "A: whole buffer");
@@ -184,8 +195,8 @@ static void test_short_buffer(void)
 {
     uint8_t *out = filled(KOB_BUILD_BUFFER - 1);
     uint64_t result = kob_build(cluster_a, sizeof cluster_a, out, KOB_BUILD_BUFFER - 1);
-    expect(result == refused(KOB_FAULT_BUFFER_SHORT, 0), "A: 2,050 bytes give 10");
-    expect(all_are(out, KOB_BUILD_BUFFER - 1, FILL), "A: 2,050 bytes stay");
+    expect(result == refused(KOB_FAULT_BUFFER_SHORT, 0), "A: 2,561 bytes give 10");
+    expect(all_are(out, KOB_BUILD_BUFFER - 1, FILL), "A: 2,561 bytes stay");
     free(out);
 }
 
@@ -204,16 +215,39 @@ static void test_verdicts(void)
 {
     static const uint8_t both[] = {1, 0, 0, 0, 13, 0, 1, 0, 2, 0, 1, 1, 0};
     static const uint8_t stays[] = {1, 0, 0, 0, 11, 0, 1, 0, 1, 0, 0};
-    static const uint8_t version[] = {2, 0, 0, 0, 7, 0, 0};
+    static const uint8_t version[] = {3, 0, 0, 0, 7, 0, 0};
     static const uint8_t counts[] = {1, 0, 0, 0, 7, 0, 1};
     expect(verdict_on_a(plan_a, sizeof plan_a) == 16, "A: its plan");
+    expect(verdict_on_a(plain_a, sizeof plain_a) == 16, "A: its plan in version 1");
     expect(verdict_on_a(no_steps, sizeof no_steps) == refused(19, 0), "A: no steps");
+    expect(verdict_on_a(no_steps_2, sizeof no_steps_2) == refused(19, 0), "A: no steps, version 2");
     expect(verdict_on_a(both, sizeof both) == refused(17, 1), "A: both moves in one step");
     expect(verdict_on_a(stays, sizeof stays) == refused(15, 1), "A: VM 0 to node 0");
     expect(verdict_on_a(no_steps, 6) == refused(11, 0), "A: a plan of 6 bytes");
-    expect(verdict_on_a(version, sizeof version) == refused(12, 0), "A: plan version 2");
-    expect(verdict_on_a(plan_a, 18) == refused(13, 0), "A: a plan cut short");
+    expect(verdict_on_a(version, sizeof version) == refused(12, 0), "A: plan version 3");
+    expect(verdict_on_a(plan_a, 21) == refused(13, 0), "A: a plan cut short");
+    expect(verdict_on_a(plain_a, 18) == refused(13, 0), "A: a plan of version 1 cut short");
     expect(verdict_on_a(counts, sizeof counts) == refused(14, 0), "A: a step that is not there");
+}
+
+/* A's plan with other bytes for the source and the destination of a move: bytes 10, 15 and 20 are sources. */
+static uint64_t verdict_with(size_t byte, uint8_t source, uint8_t destination)
+{
+    uint8_t plan[sizeof plan_a];
+    memcpy(plan, plan_a, sizeof plan);
+    plan[byte] = source;
+    plan[byte + 1] = destination;
+    return verdict_on_a(plan, sizeof plan);
+}
+
+static void test_sources(void)
+{
+    expect(verdict_with(10, 1, 2) == refused(27, 1), "A: step 1 from another node");
+    expect(verdict_with(15, 0, 0) == refused(27, 2), "A: step 2 from its destination, not its place");
+    expect(verdict_with(20, 0, 1) == refused(27, 3), "A: step 3 from where the VM was at the start");
+    expect(verdict_with(20, 1, 2) == refused(15, 3), "A: to where the VM is: 15 before 27");
+    expect(verdict_with(20, 3, 1) == refused(27, 3), "A: from a node that is not there");
+    expect(verdict_with(20, 255, 1) == refused(27, 3), "A: from node 255");
 }
 
 static void test_blocked(void)
@@ -223,7 +257,7 @@ static void test_blocked(void)
     cluster[23] = 1; /* node 2's memory */
     uint64_t result = kob_build(cluster, sizeof cluster_a, out, KOB_BUILD_BUFFER);
     expect(result == made(KOB_BLOCKED, 0, 0, 0), "blocked");
-    expect(memcmp(out, "\1\0\0\0\7\0\0", 7) == 0, "blocked: a record of no steps");
+    expect(memcmp(out, no_steps_2, 7) == 0, "blocked: a record of no steps");
     expect(all_are(out + 7, KOB_BUILD_BUFFER - 7, FILL), "blocked: the bytes behind it stay");
     expect(kob_check(cluster, sizeof cluster_a, out, 7) == refused(19, 0), "blocked: refused 19, step 0");
     free(cluster);
@@ -235,6 +269,7 @@ static void test_cluster_a(void)
     test_build_a();
     test_short_buffer();
     test_verdicts();
+    test_sources();
     test_blocked();
     group("cluster A");
 }
@@ -286,20 +321,26 @@ static void test_cut(void)
     }
     for (size_t len = 0; len <= sizeof plan_a; len++)
         expect(check_stays(cluster_a, sizeof cluster_a, plan_a, len), "check of A's plan, cut");
-    for (size_t len = 0; len <= KOB_BUILD_BUFFER + 1; len += len < 2040 ? 17 : 1)
+    for (size_t len = 0; len <= sizeof plain_a; len++)
+        expect(check_stays(cluster_a, sizeof cluster_a, plain_a, len), "check of A's plan in version 1, cut");
+    for (size_t len = 0; len <= KOB_BUILD_BUFFER + 1; len += len < KOB_BUILD_BUFFER - 11 ? 17 : 1)
         expect(build_stays(cluster_a, sizeof cluster_a, len), "build of A into a buffer of any length");
 }
 
 /* The largest records there are. */
 static void test_large(void)
 {
-    static struct record room, plan, long_room, over;
+    static struct record room, plan, plain, long_room, over;
     full_room(&room);
-    full_plan(&plan);
+    full_plan(&plan, 2);
+    full_plan(&plain, 1);
     chains(&long_room);
-    expect(room.len == 52043 && plan.len == KOB_MAX_PLAN_BYTES, "the full records' lengths");
+    expect(room.len == 52043, "the full room's length");
+    expect(plan.len == KOB_MAX_PLAN_BYTES && plain.len == 3079, "the full plans' lengths");
     expect(kob_check(room.bytes, room.len, plan.bytes, plan.len) == FULL_PLAN_COST, "the full plan's cost");
+    expect(kob_check(room.bytes, room.len, plain.bytes, plain.len) == FULL_PLAN_COST, "in version 1");
     expect(check_stays(room.bytes, room.len, plan.bytes, plan.len), "check of the full plan");
+    expect(check_stays(room.bytes, room.len, plain.bytes, plain.len), "check of the full plan in version 1");
     expect(build_stays(room.bytes, room.len, KOB_BUILD_BUFFER), "build of the full room");
     expect(build_stays(long_room.bytes, long_room.len, KOB_BUILD_BUFFER), "build of the chains");
     for (size_t len = 1; len < room.len; len += 1009)
@@ -333,8 +374,8 @@ static void test_damaged_room(void)
     static struct record room, plan, bad;
     int good = 1;
     full_room(&room);
-    full_plan(&plan);
-    for (int i = 0; i < 300; i++) {
+    for (uint32_t i = 0; i < 300; i++) {
+        full_plan(&plan, 1 + i % 2);
         memcpy(bad.bytes, room.bytes, room.len);
         damage(bad.bytes + 5, room.len - 5);
         good = good && build_stays(bad.bytes, room.len, KOB_BUILD_BUFFER);

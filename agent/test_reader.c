@@ -11,16 +11,17 @@ static struct fenced pages;
 /* What a reader gave: how it started and ended, what it counted, and its moves written as a record again. */
 struct reading {
     int started, whole;
-    unsigned steps, moves;
+    unsigned steps, moves, sources;
     struct record again;
 };
 
 static void read_moves(kob_reader *reader, struct reading *got)
 {
-    unsigned vm, destination;
-    while (kob_read_move(reader, &vm, &destination)) {
+    unsigned vm, source, destination;
+    while (kob_read_move_from(reader, &vm, &source, &destination)) {
         got->moves++;
-        put_move(&got->again, vm, destination);
+        got->sources += source != KOB_NO_SOURCE;
+        put_move(&got->again, vm, source, destination);
     }
 }
 
@@ -39,8 +40,8 @@ static void read_steps(kob_reader *reader, struct reading *got)
 static void read_all(const uint8_t *bytes, size_t len, struct reading *got)
 {
     kob_reader reader;
-    got->steps = got->moves = 0;
-    put_plan(&got->again, 0);
+    got->steps = got->moves = got->sources = 0;
+    put_plan(&got->again, len == 0 ? 1 : bytes[0], 0);
     got->started = kob_read_start(&reader, bytes, len);
     read_steps(&reader, got);
     got->again.bytes[5] = (uint8_t)(got->steps >> 8);
@@ -49,14 +50,16 @@ static void read_all(const uint8_t *bytes, size_t len, struct reading *got)
 }
 
 static const uint8_t no_steps[] = {1, 0, 0, 0, 7, 0, 0};
+static const uint8_t no_steps_2[] = {2, 0, 0, 0, 7, 0, 0};
 
-/* Of a whole record everything is read, and nothing else; of 0 bytes what a header with 0 steps gives. */
+/* Of a whole record everything is read, and nothing else, sources of each move in version 2 and of none in
+ * version 1; of 0 bytes what a header with 0 steps gives. */
 static int read_whole(const struct reading *got, const uint8_t *bytes, size_t len)
 {
     if (len == 0)
         return read_whole(got, no_steps, sizeof no_steps);
     return got->started == 1 && got->whole == 1 && got->again.len == len
-           && memcmp(got->again.bytes, bytes, len) == 0;
+           && memcmp(got->again.bytes, bytes, len) == 0 && got->sources == (bytes[0] == 2 ? got->moves : 0);
 }
 
 /* Of a damaged one nothing. */
@@ -106,38 +109,42 @@ static int agree_either(const uint8_t *bytes, size_t len)
 
 /* ---- the plan of A, by hand */
 
-static int next_is(kob_reader *reader, unsigned vm, unsigned destination)
+static int next_is(kob_reader *reader, unsigned vm, unsigned source, unsigned destination)
 {
-    unsigned moves = 99, got_vm = 99, got_destination = 99;
-    return kob_read_step(reader, &moves) && moves == 1 && kob_read_move(reader, &got_vm, &got_destination)
-           && got_vm == vm && got_destination == destination
-           && !kob_read_move(reader, &got_vm, &got_destination);
+    unsigned moves = 99, got_vm = 99, got_source = 99, got_destination = 99;
+    return kob_read_step(reader, &moves) && moves == 1
+           && kob_read_move_from(reader, &got_vm, &got_source, &got_destination) && got_vm == vm
+           && got_source == source && got_destination == destination
+           && !kob_read_move_from(reader, &got_vm, &got_source, &got_destination);
 }
 
-static void test_a(void)
+/* A's plan, of either version. */
+static void test_a(const uint8_t *plan, size_t len)
 {
     kob_reader reader;
-    unsigned moves = 99, vm = 99, destination = 99;
-    expect(kob_read_start(&reader, plan_a, sizeof plan_a) == 1, "A: starts");
+    unsigned moves = 99, vm = 99, source = 99, destination = 99;
+    int named = plan[0] == 2;
+    expect(kob_read_start(&reader, plan, len) == 1, "A: starts");
     expect(!kob_read_move(&reader, &vm, &destination), "A: no move before the first step");
-    expect(next_is(&reader, 0, 2), "A: step 1");
-    expect(next_is(&reader, 1, 0), "A: step 2");
-    expect(next_is(&reader, 0, 1), "A: step 3");
+    expect(!kob_read_move_from(&reader, &vm, &source, &destination), "A: and none with its source");
+    expect(next_is(&reader, 0, named ? 0 : KOB_NO_SOURCE, 2), "A: step 1");
+    expect(next_is(&reader, 1, named ? 1 : KOB_NO_SOURCE, 0), "A: step 2");
+    expect(next_is(&reader, 0, named ? 2 : KOB_NO_SOURCE, 1), "A: step 3");
     expect(!kob_read_step(&reader, &moves) && kob_read_whole(&reader), "A: ends whole");
     expect(!kob_read_step(&reader, &moves) && kob_read_whole(&reader), "A: stays ended");
-    expect(!kob_read_move(&reader, &vm, &destination), "A: no move behind the last step");
-    expect(moves == 99 && vm == 99 && destination == 99, "A: what is not given is not set");
-    expect(agree_whole(plan_a, sizeof plan_a), "A: against pages");
+    expect(!kob_read_move_from(&reader, &vm, &source, &destination), "A: no move behind the last step");
+    expect(moves == 99 && vm == 99 && source == 99 && destination == 99, "A: what is not given is not set");
+    expect(agree_whole(plan, len), "A: against pages");
 }
 
-static void test_no_steps(void)
+static void test_no_steps(const uint8_t *plan, size_t len)
 {
     kob_reader reader;
     unsigned moves, vm, destination;
-    expect(kob_read_start(&reader, no_steps, sizeof no_steps) == 1, "no steps: starts");
+    expect(kob_read_start(&reader, plan, len) == 1, "no steps: starts");
     expect(!kob_read_step(&reader, &moves) && !kob_read_move(&reader, &vm, &destination), "no steps: none");
     expect(kob_read_whole(&reader), "no steps: whole");
-    expect(agree_whole(no_steps, sizeof no_steps), "no steps: against pages");
+    expect(agree_whole(plan, len), "no steps: against pages");
 }
 
 /* Whether a reader that has no more steps has no more moves either, however often it is asked. */
@@ -168,25 +175,25 @@ static void test_no_bytes(void)
 }
 
 /* Steps of 2, 3 and 1 moves. */
-static void put_six(struct record *plan)
+static void put_six(struct record *plan, uint32_t version)
 {
-    put_plan(plan, 3);
+    put_plan(plan, version, 3);
     for (unsigned step = 0; step < 3; step++) {
         unsigned moves = step == 0 ? 2 : step == 1 ? 3 : 1;
         put(plan, 2, moves);
         for (unsigned i = 0; i < moves; i++)
-            put_move(plan, 10 * step + i, i);
+            put_move(plan, 10 * step + i, 100 + i, i);
     }
     finish(plan);
 }
 
 /* Moves that are not read are passed over. */
-static void test_skipping(void)
+static void test_skipping(uint32_t version)
 {
     static struct record plan;
     kob_reader reader, copy;
     unsigned moves, vm, destination;
-    put_six(&plan);
+    put_six(&plan, version);
     expect(agree_whole(plan.bytes, plan.len), "six moves");
     kob_read_start(&reader, plan.bytes, plan.len);
     expect(kob_read_step(&reader, &moves) && moves == 2, "skipping: step 1, nothing read");
@@ -200,72 +207,80 @@ static void test_skipping(void)
 }
 
 /* No move is read at all; the record ends at a page. */
-static void test_steps_only(void)
+static void test_steps_only(uint32_t version)
 {
     static struct record plan;
     kob_reader reader;
     unsigned moves, all = 0;
-    put_six(&plan);
+    put_six(&plan, version);
     kob_read_start(&reader, lend(&pages, BACK, plan.bytes, plan.len), plan.len);
     while (kob_read_step(&reader, &moves))
         all += moves;
     expect(all == 6 && kob_read_whole(&reader), "steps only: ends whole");
     expect(stays_ended(&reader) && kob_read_whole(&reader), "steps only: stays ended");
-    plan.bytes[0] = 2;
+    plan.bytes[0] = 3;
     kob_read_start(&reader, lend(&pages, BACK, plan.bytes, plan.len), plan.len);
     expect(stays_ended(&reader) && !kob_read_whole(&reader), "another version: stays ended");
 }
 
 static void test_by_hand(void)
 {
-    test_a();
-    test_no_steps();
+    test_a(plan_a, sizeof plan_a);
+    test_a(plain_a, sizeof plain_a);
+    test_no_steps(no_steps, sizeof no_steps);
+    test_no_steps(no_steps_2, sizeof no_steps_2);
     test_no_bytes();
-    test_skipping();
-    test_steps_only();
+    for (uint32_t version = 1; version <= 2; version++) {
+        test_skipping(version);
+        test_steps_only(version);
+    }
     group("reader by hand");
 }
 
 /* ---- limits */
 
 /* A plan of so many steps, each of so many moves but the last. */
-static void put_steps(struct record *plan, unsigned steps, unsigned moves, unsigned last)
+static void put_steps(struct record *plan, uint32_t version, unsigned steps, unsigned moves, unsigned last)
 {
-    put_plan(plan, steps);
+    put_plan(plan, version, steps);
     for (unsigned step = 1; step <= steps; step++) {
         unsigned count = step == steps ? last : moves;
         put(plan, 2, count);
         for (unsigned i = 0; i < count; i++)
-            put_move(plan, i & 255, step & 63);
+            put_move(plan, i & 255, i & 63, step & 63);
     }
     finish(plan);
 }
 
-static void test_limits(void)
+static void test_limits(uint32_t version)
 {
     static struct record plan;
-    put_steps(&plan, 512, 2, 2);
+    const size_t longest = version == 2 ? KOB_MAX_PLAN_BYTES : 3079;
+    put_steps(&plan, version, 512, 2, 2);
     expect(agree_whole(plan.bytes, plan.len), "512 steps");
-    put_steps(&plan, 513, 1, 1);
+    put_steps(&plan, version, 513, 1, 1);
     expect(agree_damaged(plan.bytes, plan.len), "513 steps");
-    put_steps(&plan, 1, 0, 256);
+    put_steps(&plan, version, 1, 0, 256);
     expect(agree_whole(plan.bytes, plan.len), "256 moves in a step");
-    put_steps(&plan, 1, 0, 257);
+    put_steps(&plan, version, 1, 0, 257);
     expect(agree_damaged(plan.bytes, plan.len), "257 moves in a step");
-    put_steps(&plan, 3, 1, 0);
+    put_steps(&plan, version, 3, 1, 0);
     expect(agree_damaged(plan.bytes, plan.len), "no moves in a step");
-    put_steps(&plan, 4, 256, 256);
+    put_steps(&plan, version, 4, 256, 256);
     expect(agree_whole(plan.bytes, plan.len), "1,024 moves");
-    put_steps(&plan, 5, 256, 1);
+    put_steps(&plan, version, 5, 256, 1);
     expect(agree_damaged(plan.bytes, plan.len), "1,025 moves");
-    put_steps(&plan, 512, 2, 3);
+    put_steps(&plan, version, 512, 2, 3);
     expect(agree_damaged(plan.bytes, plan.len), "1,025 moves in 512 steps");
-    full_plan(&plan);
-    expect(plan.len == KOB_MAX_PLAN_BYTES && agree_whole(plan.bytes, plan.len), "the longest plan");
+    full_plan(&plan, version);
+    expect(plan.len == longest && agree_whole(plan.bytes, plan.len), "the longest plan");
     put(&plan, 1, 0);
     finish(&plan);
     expect(agree_damaged(plan.bytes, plan.len), "a byte behind it");
-    group("reader's limits");
+    plan.len--;
+    plan.bytes[0] = (uint8_t)(3 - version);
+    finish(&plan);
+    expect(agree_damaged(plan.bytes, plan.len), "the longest plan, read by the other version");
 }
 
 /* ---- damage */
@@ -306,10 +321,16 @@ static void test_damaged(void)
         expect(cut_right(plan_a, i), "A's plan, cut");
         expect(byte_right(plan_a, sizeof plan_a, i), "A's plan, a byte changed");
     }
-    full_plan(&plan);
-    for (size_t i = 0; i < plan.len; i++) {
-        cuts = cut_right(plan.bytes, i) && cuts;
-        bytes = byte_right(plan.bytes, plan.len, i) && bytes;
+    for (size_t i = 0; i < sizeof plain_a; i++) {
+        expect(cut_right(plain_a, i), "A's plan in version 1, cut");
+        expect(byte_right(plain_a, sizeof plain_a, i), "A's plan in version 1, a byte changed");
+    }
+    for (uint32_t version = 1; version <= 2; version++) {
+        full_plan(&plan, version);
+        for (size_t i = 0; i < plan.len; i++) {
+            cuts = cut_right(plan.bytes, i) && cuts;
+            bytes = byte_right(plan.bytes, plan.len, i) && bytes;
+        }
     }
     expect(cuts, "the longest plan, cut");
     expect(bytes, "the longest plan, a byte changed");
@@ -329,12 +350,12 @@ static void put_random(struct record *plan, size_t len)
 static void put_likely(struct record *plan)
 {
     unsigned steps = draw() % 6;
-    put_plan(plan, draw() % 8 == 0 ? steps + 1 : steps);
+    put_plan(plan, 1 + draw() % 2, draw() % 8 == 0 ? steps + 1 : steps);
     for (; steps > 0; steps--) {
         unsigned moves = 1 + draw() % 4;
         put(plan, 2, draw() % 16 == 0 ? moves + draw() % 3 - 1 : moves);
         for (; moves > 0; moves--)
-            put_move(plan, draw(), draw());
+            put_move(plan, draw(), draw(), draw());
     }
     finish(plan);
 }
@@ -349,7 +370,7 @@ static void put_any(struct record *plan)
     }
     put_random(plan, kind == 0 ? draw() % 40 : 7 + draw() % 40);
     if (kind == 1) {
-        plan->bytes[0] = 1;
+        plan->bytes[0] = (uint8_t)(1 + draw() % 2);
         plan->bytes[5] = 0;
         finish(plan);
     }
@@ -378,8 +399,8 @@ static void read_changed(uint8_t *bytes, const struct record *plan, const struct
     kob_reader reader;
     unsigned moves, vm, destination;
     memcpy(bytes, plan->bytes, plan->len);
-    got->steps = got->moves = 0;
-    put_plan(&got->again, 0);
+    got->steps = got->moves = got->sources = 0;
+    put_plan(&got->again, plan->bytes[0], 0);
     got->started = kob_read_start(&reader, bytes, plan->len);
     for (unsigned steps = draw() % 3; steps > 0; steps--)
         kob_read_step(&reader, &moves);
@@ -394,8 +415,8 @@ static void test_changed(void)
     static struct record plan, changed;
     static struct reading got;
     int bounded = 1, damaged = 1;
-    put_six(&plan);
     for (int i = 0; i < 20000; i++) {
+        put_six(&plan, 1 + (uint32_t)i / 4 % 2);
         uint8_t *bytes = at(&pages, i % 2 == 0 ? FRONT : BACK, plan.len);
         put_random(&changed, plan.len);
         read_changed(bytes, &plan, &changed, &got);
@@ -430,7 +451,7 @@ static void test_current_a(void)
     expect(current_is(cluster_a, sizeof cluster_a, 1, 1), "A: VM 1 is on node 1");
     expect(current_is_none(cluster_a, sizeof cluster_a, 2), "A: there is no VM 2");
     expect(current_is_none(cluster_a, sizeof cluster_a, ~0u), "A: there is no VM of the largest number");
-    expect(current_is_none(NULL, 0, 0), "no bytes: there is no VM 0");
+    expect(current_is_none(NULL, 0, 0), "0 bytes: there is no VM 0");
     memcpy(other, cluster_a, sizeof other);
     other[0] = 2;
     expect(current_is_none(other, sizeof other, 0), "another version: there is no VM 0");
@@ -494,7 +515,9 @@ int main(void)
 {
     pages = fence(KOB_MAX_PLAN_BYTES + 1);
     test_by_hand();
-    test_limits();
+    test_limits(1);
+    test_limits(2);
+    group("reader's limits");
     test_damaged();
     test_random();
     test_changed();

@@ -150,7 +150,7 @@ static void test_threads(void)
 int main(void)
 {
     full_room(&room);
-    full_plan(&plan);
+    full_plan(&plan, 2);
     chains(&long_room);
     long_result = build_long();
     expect(kob_outcome_of(long_result) == KOB_PLAN, "the chains are planned");

@@ -25,7 +25,7 @@
 #elif WRONG == 10 /* no record at all, of a plan of no steps */
 #define BUILT ((uint64_t)0)
 #define CHECKED BUILT
-#else /* 8: a record longer than the buffer; 9: a damaged one */
+#else /* 8: a record longer than the buffer; 9: a damaged one; 11: one that names no sources */
 #define BUILT ((uint64_t)16)
 #define CHECKED BUILT
 #endif
@@ -35,7 +35,7 @@ uint64_t kobdrieft_build(const uint8_t *cluster, size_t cluster_len, uint8_t *ou
     (void)cluster, (void)cluster_len, (void)out_len;
     for (int i = 0; i < 7; i++)
         out[i] = 0;
-    out[0] = 1;
+    out[0] = WRONG == 11 ? 1 : 2;
     out[3] = WRONG == 8 ? 9 : 0;
     out[4] = WRONG == 10 ? 0 : 7;
     out[6] = WRONG == 9 ? 1 : 0;

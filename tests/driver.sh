@@ -45,7 +45,10 @@ cp "$data/a.cluster" 'cluster A'
 cp "$data/a.plan" 'plan A'
 cp "$data/a.plan" ./-plan
 bytes 01 00000028 0003 0002 0000 0000040064 0000040064 0000010064 0000030032 00 01 0000020032 01 00 >blocked
-bytes 01 00000007 0000 >none
+bytes 01 00000013 0003 0001 00 02 0001 01 00 0001 00 01 >plain
+bytes 02 00000016 0003 0001 00 00 02 0001 01 01 00 0001 00 00 01 >stale
+bytes 02 00000007 0000 >none
+bytes 01 00000007 0000 >plain-none
 bytes 01 0000000d 0001 0002 00 01 01 00 >both
 : >empty
 bytes 01 00000028 0003 0002 0000 0000040064 0000040064 0000040064 0000030032 00 00 0000020032 01 01 >home
@@ -53,7 +56,12 @@ head -c 6 none >cut
 long_plan 01 65536 65536 >long
 long_plan 01 65536 65537 >longer
 long_plan 01 65537 65537 >honest
-long_plan 02 65537 65537 >versioned
+long_plan 02 65537 65537 >honest-2
+long_plan 03 65537 65537 >versioned
+long_plan 02 4103 4103 >most
+long_plan 02 4104 4104 >past
+long_plan 02 4103 4104 >past-untold
+long_plan 03 4104 4104 >past-versioned
 a_plan=$(cat "$root/crates/plan/stdout")
 
 "$driver" plan 'cluster A' >/dev/null # builds what is missing, and says so
@@ -65,7 +73,10 @@ expect 'a plan' 0 "$a_plan" '' "$driver" plan 'cluster A'
 expect 'blocked' 1 'blocked steps 0 moves 0 cost 0' '' "$driver" plan blocked
 expect 'no record to plan' 2 'refused 1 step 0' 'kobdrieft: The cluster record has fewer than 11 bytes.' "$driver" plan empty
 expect 'accepted' 0 'accepted cost 16' '' "$driver" check 'cluster A' 'plan A'
+expect 'accepted in version 1' 0 'accepted cost 16' '' "$driver" check 'cluster A' plain
+expect 'another source' 2 'refused 27 step 3' 'kobdrieft: A move names a source that is not the node its VM is on when the step starts.' "$driver" check 'cluster A' stale
 expect 'off target' 2 'refused 19 step 0' 'kobdrieft: Every step is sound, but after the last some VM is off its target.' "$driver" check 'cluster A' none
+expect 'off target in version 1' 2 'refused 19 step 0' 'kobdrieft: Every step is sound*' "$driver" check 'cluster A' plain-none
 expect 'does not fit' 2 'refused 17 step 1' 'kobdrieft: In some order*' "$driver" check 'cluster A' both
 expect 'no record to check' 2 'refused 1 step 0' '*fewer than 11 bytes*' "$driver" check empty 'plan A'
 expect 'a cut plan' 2 'refused 11 step 0' 'kobdrieft: The plan record has 1 to 6 bytes.' "$driver" check home cut
@@ -77,7 +88,12 @@ expect 'a long cluster' 2 'refused 3 step 0' 'kobdrieft: *' "$driver" check long
 expect 'a full buffer of plan' 2 'refused 14 step 0' 'kobdrieft: *' "$driver" check 'cluster A' long
 expect 'a long plan, another length stated' 2 'refused 13 step 0' 'kobdrieft: *' "$driver" check 'cluster A' longer
 expect 'a long plan, its length stated' 2 'refused 14 step 0' 'kobdrieft: *' "$driver" check 'cluster A' honest
-expect 'a long plan, another version' 2 'refused 12 step 0' 'kobdrieft: *' "$driver" check 'cluster A' versioned
+expect 'a long plan of version 2, its length stated' 2 'refused 14 step 0' 'kobdrieft: *' "$driver" check 'cluster A' honest-2
+expect 'a long plan, another version' 2 'refused 12 step 0' 'kobdrieft: The plan record*neither 1 nor 2.' "$driver" check 'cluster A' versioned
+expect 'a plan of 4,103 bytes' 2 'refused 14 step 0' 'kobdrieft: *' "$driver" check 'cluster A' most
+expect 'a plan of 4,104 bytes' 2 'refused 14 step 0' 'kobdrieft: *' "$driver" check 'cluster A' past
+expect 'a plan of 4,104 bytes, another length stated' 2 'refused 13 step 0' 'kobdrieft: *' "$driver" check 'cluster A' past-untold
+expect 'a plan of 4,104 bytes, another version' 2 'refused 12 step 0' 'kobdrieft: *' "$driver" check 'cluster A' past-versioned
 
 # the plan record
 written() { "$driver" plan "$1" "$2" && od -An -v -tx1 "$2" | tr -d ' \n'; }
@@ -110,13 +126,22 @@ expect 'the same record' 0 '' '' cmp 'cluster A' ../packed
 expect 'a plan record as text' 0 '' '' "$driver" unpack-plan 'plan A' ../text
 expect 'a plan record from text' 0 '' '' "$driver" pack-plan ../text ../packed
 expect 'the same plan record' 0 '' '' cmp 'plan A' ../packed
+expect 'a plan record of version 1 as text' 0 '' '' "$driver" unpack-plan plain ../text
+expect 'a plan record of version 1 from text' 0 '' '' "$driver" pack-plan ../text ../packed
+expect 'the same plan record of version 1' 0 '' '' cmp plain ../packed
+expect 'a header as text' 0 '' '' "$driver" unpack-plan none ../text
+expect 'a header of version 2 from its text' 0 '' '' "$driver" pack-plan ../text ../packed
+expect 'the same header' 0 '' '' cmp none ../packed
 expect 'an empty plan as text' 0 '' '' "$driver" unpack-plan empty ../text
 expect 'a header from its text' 0 '' '' "$driver" pack-plan ../text ../packed
-expect 'of no steps' 0 '' '' cmp none ../packed
+expect 'of no steps' 0 '' '' cmp plain-none ../packed
 expect 'the cost of an empty plan' 0 "$(printf '%s\n' 'step  moves  most  before  sum  total' 'cost                                0')" '' "$driver" cost home empty
 expect 'the cost, step after step' 0 "$(printf '%s\n' 'step  moves  most  before  sum  total' '   1      2     3       0    5      5' 'cost                                5')" 'room: the checker would refuse this plan (refused 17 step 1)*' "$driver" cost 'cluster A' both
 expect 'a page' 0 '' '' "$driver" draw 'cluster A' 'plan A' ../page.html
 expect 'whose verdict' 0 '1' '' bash -c 'grep -c "proved checker" ../page.html'
+expect 'a page of a plan of version 1' 0 '' '' "$driver" draw 'cluster A' plain ../page.html
+expect 'a page of another source' 0 '' '' "$driver" draw 'cluster A' stale ../page.html
+expect 'what refuses it' 0 '' '' grep -q 'names node 0 as its source, but VM 0 is on node 2' ../page.html
 expect 'a page of an empty plan' 0 '' '' "$driver" draw home empty ../page.html
 expect 'a page of a cut plan' 2 '' 'room: *' "$driver" draw home cut ../page.html
 expect 'a page from a pipe' 3 '' 'kobdrieft: draw reads its files twice*' "$driver" draw <(cat 'cluster A') 'plan A' ../page.html

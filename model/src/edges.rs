@@ -3,9 +3,10 @@
 
 use crate::planner::BUFFER;
 use crate::records::{
-    cluster_bytes, cluster_bytes_with, plan_bytes, state_length, Constraint, Move, Node, Room,
-    Step, Vm, PLAN_HEADER,
+    cluster_bytes, cluster_bytes_with, plan_bytes, state_length, Constraint, Move, Node, Plan,
+    Room, Step, Version, Vm, PLAN_HEADER,
 };
+use crate::sources::{bare, named};
 
 /// One input with its expected outcome. `check` is `None` for accepted, else number and step;
 /// `build` is `None` for plan or blocked, else the number.
@@ -35,7 +36,19 @@ pub fn room(nodes: &[Node], vms: &[Vm], constraints: &[Constraint]) -> Room {
 
 /// Steps from pairs of VM and destination.
 pub fn steps(steps: &[&[(usize, usize)]]) -> Vec<Step> {
-    steps.iter().map(|s| s.iter().map(|&(vm, to)| Move { vm, to }).collect()).collect()
+    steps.iter().map(|s| s.iter().map(|&(vm, to)| Move::bare(vm, to)).collect()).collect()
+}
+
+/// A plan of version 2 from rows of VM, source and destination.
+pub fn sourced(steps: &[&[(usize, usize, usize)]]) -> Plan {
+    let named = |&(vm, from, to): &(usize, usize, usize)| Move { vm, from: Some(from), to };
+    let steps = steps.iter().map(|s| s.iter().map(named).collect()).collect();
+    Plan { version: Version::Two, steps }
+}
+
+/// The record of a plan of no steps.
+pub fn header(version: Version) -> Vec<u8> {
+    plan_bytes(&Plan::empty(version))
 }
 
 /// Document 01's cluster A.
@@ -76,7 +89,7 @@ impl Edges {
         self.0.push(Edge {
             name: name.to_string(),
             cluster,
-            plan: plan_bytes(&[]),
+            plan: header(Version::One),
             buffer: BUFFER,
             check: refusal.map(|number| (number, 0)),
             build: refusal,
@@ -101,26 +114,38 @@ impl Edges {
         self.0.push(Edge { name, cluster, plan, buffer: BUFFER, check, build: None });
     }
 
-    /// A cluster's bytes beside no plan bytes, and beside the header of a plan of no steps: one
-    /// outcome for both, 0 for accepted. Then beside 6 plan bytes, which are 11 unless the
-    /// cluster itself is refused.
+    /// A cluster's bytes beside no plan bytes, and beside the header of a plan of no steps in each
+    /// version: one outcome for all, 0 for accepted. Then beside 6 bytes of either header, which
+    /// are 11 unless the cluster itself is refused.
     fn no_steps(&mut self, name: &str, cluster: &[u8], number: u8) {
-        let header = plan_bytes(&[]);
         let cut = if matches!(number, 0 | 19) { 11 } else { number };
-        let plans = [("no plan bytes", 0, number), ("header", 7, number), ("6 plan bytes", 6, cut)];
-        for (kind, length, number) in plans {
+        let mut add = |kind: &str, plan: &[u8], number: u8| {
             self.0.push(Edge {
                 name: format!("{name}, {kind}"),
                 cluster: cluster.to_vec(),
-                plan: header[..length].to_vec(),
+                plan: plan.to_vec(),
                 buffer: BUFFER,
                 check: (number != 0).then_some((number, 0)),
                 build: (1..=9).contains(&number).then_some(number),
             });
+        };
+        add("no plan bytes", &[], number);
+        for version in Version::ALL {
+            let header = header(version);
+            add(&format!("header {}", version as u8), &header, number);
+            add(&format!("6 bytes of header {}", version as u8), &header[..6], cut);
         }
     }
 
-    /// As `plan`, from steps.
+    /// As `plan`, from steps in each version, with sources that are right in version 2: one
+    /// outcome for both.
+    fn both(&mut self, name: &str, room: &Room, list: &[Step], check: Option<(u8, u16)>) {
+        self.plan(name, room, plan_bytes(&bare(list)), check);
+        let with_sources = plan_bytes(&named(room, list));
+        self.plan(&format!("{name}, sources named"), room, with_sources, check);
+    }
+
+    /// As `both`, from pairs of VM and destination.
     fn steps(
         &mut self,
         name: &str,
@@ -128,7 +153,18 @@ impl Edges {
         list: &[&[(usize, usize)]],
         check: Option<(u8, u16)>,
     ) {
-        self.plan(name, room, plan_bytes(&steps(list)), check);
+        self.both(name, room, &steps(list), check);
+    }
+
+    /// As `plan`, from rows of VM, source and destination.
+    fn sourced(
+        &mut self,
+        name: &str,
+        room: &Room,
+        list: &[&[(usize, usize, usize)]],
+        check: Option<(u8, u16)>,
+    ) {
+        self.plan(name, room, plan_bytes(&sourced(list)), check);
     }
 }
 
@@ -148,8 +184,12 @@ pub fn edges() -> Vec<Edge> {
     whole_clusters_without_steps(&mut edges);
     short_plans(&mut edges);
     plan_headers(&mut edges);
+    plan_versions(&mut edges);
     plan_counts(&mut edges);
     move_names(&mut edges);
+    sources(&mut edges);
+    sources_before_other_faults(&mut edges);
+    sources_step_by_step(&mut edges);
     closed_nodes(&mut edges);
     fits(&mut edges);
     spreads(&mut edges);
@@ -384,7 +424,7 @@ fn latency_shapes(e: &mut Edges) {
     e.0.push(Edge {
         name: "64 groups of one node".to_string(),
         cluster: cluster_bytes(&wide),
-        plan: plan_bytes(&steps(&[&[(0, 63)]])),
+        plan: plan_bytes(&named(&wide, &steps(&[&[(0, 63)]]))),
         buffer: BUFFER,
         check: None,
         build: None,
@@ -453,19 +493,22 @@ fn target_constraints(e: &mut Edges) {
         let (name, cluster) = (name.to_string(), banned.clone());
         e.0.push(Edge { name, cluster, plan, buffer, check: Some((9, 0)), build: Some(9) });
     };
-    edge("9 before 10", plan_bytes(&[]), 0);
-    edge("9 before 11", plan_bytes(&[])[..6].to_vec(), BUFFER);
+    edge("9 before 10", header(Version::One), 0);
+    edge("9 before 11", header(Version::One)[..6].to_vec(), BUFFER);
+    edge("9 before 12", changed(&header(Version::One), |b| b[0] = 3), BUFFER);
+    edge("9 before 27", plan_bytes(&sourced(&[&[(0, 1, 2)]])), BUFFER);
 }
 
 // ---------------------------------------------------------------- 10
 
 fn buffers(e: &mut Edges) {
-    let sizes = [(0, Some(10)), (7, Some(10)), (2_050, Some(10)), (2_051, None), (2_052, None)];
-    for (buffer, build) in sizes {
+    let too_short = [0, 7, 2_047, 2_048, 2_050, 2_051, 2_052, 2_560, 2_561].map(|b| (b, Some(10)));
+    let enough = [2_562, 2_563, 4_103, 4_104].map(|buffer| (buffer, None));
+    for (buffer, build) in too_short.into_iter().chain(enough) {
         e.0.push(Edge {
             name: format!("buffer {buffer}"),
             cluster: cluster_bytes(&at_home()),
-            plan: plan_bytes(&[]),
+            plan: header(Version::Two),
             buffer,
             check: None,
             build,
@@ -558,63 +601,123 @@ fn whole_clusters_without_steps(e: &mut Edges) {
 
 /// Every length from 1 byte to the header's, for clusters at home and not.
 fn short_plans(e: &mut Edges) {
-    let good = plan_bytes(&steps(&[&[(0, 2)], &[(0, 0)]]));
-    let header = plan_bytes(&[]);
-    for room in [at_home(), cluster_a()] {
-        for length in 1..PLAN_HEADER {
-            let states_itself = [1, 0, 0, 0, length as u8, 0];
-            let mut short = |name: &str, bytes: &[u8]| {
-                let plan = bytes[..length].to_vec();
-                e.plan(&format!("{length} bytes {name}"), &room, plan, Some((11, 0)));
-            };
-            short("of zeros", &[0; 6]);
-            short("of 255", &[255; 6]);
-            short("of a header", &header);
-            short("of a plan", &good);
-            short("that state so", &states_itself);
+    for version in Version::ALL {
+        let (good, header) = (away_and_back(version), header(version));
+        for room in [at_home(), cluster_a()] {
+            for length in 1..PLAN_HEADER {
+                let states_itself = [version as u8, 0, 0, 0, length as u8, 0];
+                let mut short = |name: &str, bytes: &[u8]| {
+                    let plan = bytes[..length].to_vec();
+                    e.plan(&format!("{length} bytes {name}"), &room, plan, Some((11, 0)));
+                };
+                short("of zeros", &[0; 6]);
+                short("of 255", &[255; 6]);
+                short("of a header", &header);
+                short("of a plan", &good);
+                short("that state so", &states_itself);
+            }
+            e.plan("7 bytes of zeros", &room, vec![0; 7], Some((12, 0)));
+            e.plan("7 bytes that state 6", &room, changed(&header, |b| b[4] = 6), Some((13, 0)));
+            e.plan("7 bytes that state 0", &room, changed(&header, |b| b[4] = 0), Some((13, 0)));
         }
-        e.plan("7 bytes of zeros", &room, vec![0; 7], Some((12, 0)));
-        e.plan("7 bytes that state 6", &room, changed(&header, |b| b[4] = 6), Some((13, 0)));
-        e.plan("7 bytes that state 0", &room, changed(&header, |b| b[4] = 0), Some((13, 0)));
     }
+}
+
+/// A plan for the VMs at home: VM 0 goes to node 2, then back.
+fn away_and_back(version: Version) -> Vec<u8> {
+    let list = steps(&[&[(0, 2)], &[(0, 0)]]);
+    plan_bytes(&match version {
+        Version::One => bare(&list),
+        Version::Two => named(&at_home(), &list),
+    })
 }
 
 fn plan_headers(e: &mut Edges) {
     let home = at_home();
-    let good = plan_bytes(&steps(&[&[(0, 2)], &[(0, 0)]]));
     let at = |number: u8| Some((number, 0));
-    e.plan("away and back", &home, good.clone(), None);
-    e.plan("6 plan bytes, version 2", &home, changed(&good[..6], |b| b[0] = 2), at(11));
-    e.plan("7 plan bytes, version 0", &home, changed(&good[..7], |b| b[0] = 0), at(12));
-    e.plan("7 plan bytes, length of the whole", &home, good[..7].to_vec(), at(13));
-    e.plan("7 plan bytes, two steps counted", &home, restated(&good[..7], |_| ()), at(14));
-    e.plan("7 plan bytes, no steps", &home, plan_bytes(&[]), None);
-    for version in [0, 2, 255] {
-        e.plan("plan version", &home, changed(&good, |b| b[0] = version), at(12));
+    for version in Version::ALL {
+        let good = away_and_back(version);
+        let mut plan = |name: &str, bytes: Vec<u8>, check| {
+            e.plan(&format!("plan version {}, {name}", version as u8), &home, bytes, check);
+        };
+        plan("away and back", good.clone(), None);
+        plan("7 bytes, length of the whole", good[..7].to_vec(), at(13));
+        plan("7 bytes, two steps counted", restated(&good[..7], |_| ()), at(14));
+        plan("7 bytes, no steps", header(version), None);
+        plan("length one more", changed(&good, |b| b[4] += 1), at(13));
+        plan("length one less", changed(&good, |b| b[4] -= 1), at(13));
+        for byte in 1..4 {
+            plan("length, a high byte", changed(&good, |b| b[byte] = 1), at(13));
+        }
+        plan("one byte more lent", changed(&good, |b| b.push(0)), at(13));
+        plan("one byte less lent", changed(&good, cut), at(13));
+        plan("length and step count", changed(&good, |b| (b[4], b[5]) = (0, 255)), at(13));
+        plan("one byte over", restated(&good, |b| b.push(0)), at(14));
+        plan("one byte short", restated(&good, cut), at(14));
+        plan("a step short", changed(&good, |b| b[6] = 3), at(14));
+        plan("a step over", changed(&good, |b| b[6] = 1), at(14));
+        plan("no steps counted", changed(&good, |b| b[6] = 0), at(14));
+        plan("half a move count", restated(&good[..8], |b| b[6] = 1), at(14));
+        for length in 9..9 + version.width() {
+            plan("a move cut", restated(&good[..length], |b| b[6] = 1), at(14));
+        }
+        let one_step = restated(&good[..9 + version.width()], |b| b[6] = 1);
+        plan("one whole move", one_step, at(19));
+        plan("65,536 bytes", restated(&good, |b| b.resize(65_536, 0)), at(14));
+        plan("70,000 bytes", restated(&good, |b| b.resize(70_000, 0)), at(14));
     }
-    e.plan("plan version and length", &home, changed(&good, |b| (b[0], b[4]) = (0, 0)), at(12));
-    e.plan("plan length one more", &home, changed(&good, |b| b[4] += 1), at(13));
-    e.plan("plan length one less", &home, changed(&good, |b| b[4] -= 1), at(13));
-    for byte in 1..4 {
-        e.plan("plan length, a high byte", &home, changed(&good, |b| b[byte] = 1), at(13));
+}
+
+/// Every version number, and the bytes of one version read as the other.
+fn plan_versions(e: &mut Edges) {
+    let home = at_home();
+    let at = |number: u8| Some((number, 0));
+    let [first, second] = Version::ALL.map(away_and_back);
+    for good in [&first, &second, &header(Version::One)] {
+        for version in [0, 3, 4, 127, 128, 129, 130, 254, 255] {
+            let with = |length: usize| changed(&good[..length], |b| b[0] = version);
+            e.plan(&format!("plan version {version}"), &home, with(good.len()), at(12));
+            e.plan(&format!("7 bytes, version {version}"), &home, with(7), at(12));
+            e.plan(&format!("6 bytes, version {version}"), &home, with(6), at(11));
+        }
+        let both = changed(good, |b| (b[0], b[4]) = (0, 0));
+        e.plan("plan version and length", &home, both, at(12));
+        let both = changed(good, |b| (b[0], b[5]) = (3, 255));
+        e.plan("plan version and step count", &home, both, at(12));
     }
-    e.plan("plan, one byte more lent", &home, changed(&good, |b| b.push(0)), at(13));
-    e.plan("plan, one byte less lent", &home, changed(&good, cut), at(13));
-    e.plan(
-        "plan length and step count",
-        &home,
-        changed(&good, |b| (b[4], b[5]) = (0, 255)),
-        at(13),
-    );
-    e.plan("plan, one byte over", &home, restated(&good, |b| b.push(0)), at(14));
-    e.plan("plan, one byte short", &home, restated(&good, cut), at(14));
-    e.plan("plan, a step short", &home, changed(&good, |b| b[6] = 3), at(14));
-    e.plan("plan, a step over", &home, changed(&good, |b| b[6] = 1), at(14));
-    e.plan("plan, no steps counted", &home, changed(&good, |b| b[6] = 0), at(14));
-    e.plan("plan, half a move count", &home, restated(&good[..8], |b| b[6] = 1), at(14));
-    e.plan("plan, half a move", &home, restated(&good[..10], |b| b[6] = 1), at(14));
-    e.plan("plan of 65,536 bytes", &home, restated(&good, |b| b.resize(65_536, 0)), at(14));
-    e.plan("plan of 70,000 bytes", &home, restated(&good, |b| b.resize(70_000, 0)), at(14));
+    let a = cluster_a();
+    let list = steps(&[&[(0, 2)], &[(1, 0)], &[(0, 1)]]);
+    e.plan("the cluster record as the plan", &a, cluster_bytes(&a), at(14));
+    e.cluster("a plan of version 1 as the cluster", plan_bytes(&bare(&list)), 5);
+    e.cluster("a plan of version 2 as the cluster", plan_bytes(&named(&a, &list)), 2);
+    e.plan("version 1 read as version 2", &home, changed(&first, |b| b[0] = 2), at(14));
+    e.plan("version 2 read as version 1", &home, changed(&second, |b| b[0] = 1), at(14));
+    let (short, long) = (first[4], second[4]);
+    e.plan("version 1, length of version 2", &home, changed(&first, |b| b[4] = long), at(13));
+    e.plan("version 2, length of version 1", &home, changed(&second, |b| b[4] = short), at(13));
+    let grown = restated(&first, |b| b.resize(usize::from(long), 0));
+    e.plan("version 1, as long as version 2", &home, grown, at(14));
+    let cut_short = restated(&second, |b| b.truncate(usize::from(short)));
+    e.plan("version 2, as long as version 1", &home, cut_short, at(14));
+
+    // Bytes that fill the record in either width. In version 1 they are 2 and 4 moves, in version
+    // 2 they are 2 and 2.
+    let of = |version: u8, rest: [u8; 16]| {
+        let header = vec![version, 0, 0, 0, 23, 0, 2];
+        [header, rest.to_vec()].concat()
+    };
+    let roomy = |places: [(usize, usize); 4]| {
+        let vms = places.map(|(current, target)| vm(1, 1, current, target));
+        room(&vec![node(9, 9); 5], &vms, &[])
+    };
+    let pairs = [0, 2, 0, 1, 1, 3, 0, 4, 0, 2, 1, 0, 2, 1, 3, 2];
+    let cluster = roomy([(0, 2), (0, 0), (0, 1), (0, 2)]);
+    e.plan("either width, right in version 1", &cluster, of(1, pairs), None);
+    e.plan("the same as version 2", &cluster, of(2, pairs), Some((27, 1)));
+    let triples = [0, 2, 0, 0, 1, 3, 0, 4, 0, 2, 1, 0, 2, 2, 0, 3];
+    let cluster = roomy([(0, 1), (0, 2), (0, 3), (0, 4)]);
+    e.plan("either width, right in version 2", &cluster, of(2, triples), None);
+    e.plan("the same as version 1", &cluster, of(1, triples), Some((15, 1)));
 }
 
 /// A plan whose first two VMs go to and fro between two nodes each, one row of counts per step.
@@ -622,7 +725,7 @@ fn to_and_fro(moves: &[usize]) -> Vec<Step> {
     moves
         .iter()
         .enumerate()
-        .map(|(i, &count)| (0..count).map(|vm| Move { vm, to: 1 - i % 2 }).collect())
+        .map(|(i, &count)| (0..count).map(|vm| Move::bare(vm, 1 - i % 2)).collect())
         .collect()
 }
 
@@ -630,7 +733,7 @@ fn plan_counts(e: &mut Edges) {
     let at = |number: u8| Some((number, 0));
     let wide = room(&vec![node(16_777_215, 65_535); 2], &vec![vm(1, 1, 0, 0); 256], &[]);
     let mut plan = |name: &str, moves: &[usize], check| {
-        e.plan(name, &wide, plan_bytes(&to_and_fro(moves)), check);
+        e.both(name, &wide, &to_and_fro(moves), check);
     };
     plan("512 steps", &[1; 512], None);
     plan("513 steps", &[1; 513], at(14));
@@ -650,18 +753,36 @@ fn plan_counts(e: &mut Edges) {
     plan("1,026 moves in 6 steps", &[256, 256, 256, 256, 1, 1], at(14));
 
     let home = at_home();
-    let zero = changed(&plan_bytes(&to_and_fro(&[1])), |b| b[8] = 0);
-    e.plan("move count 0 before a move", &home, zero, at(14));
-    let high = changed(&plan_bytes(&to_and_fro(&[1])), |b| b[7] = 1);
-    e.plan("move count 257, one move there", &home, high, at(14));
-    let faulty = restated(&plan_bytes(&steps(&[&[(9, 9)]])), |b| b.push(0));
-    e.plan("a byte over behind a faulty step", &home, faulty, at(14));
-    let faulty = plan_bytes(&steps(&[&[(9, 9)], &[]]));
-    e.plan("an empty step behind a faulty step", &home, faulty, at(14));
+    let one = |list: &[&[(usize, usize)]]| [bare(&steps(list)), named(&home, &steps(list))];
+    for plan in one(&[&[(0, 1)]]) {
+        let good = plan_bytes(&plan);
+        e.plan("move count 0 before a move", &home, changed(&good, |b| b[8] = 0), at(14));
+        e.plan("move count 257, one move there", &home, changed(&good, |b| b[7] = 1), at(14));
+    }
+    for plan in one(&[&[(9, 9)]]) {
+        let faulty = restated(&plan_bytes(&plan), |b| b.push(0));
+        e.plan("a byte over behind a faulty step", &home, faulty, at(14));
+    }
+    e.steps("an empty step behind a faulty step", &home, &[&[(9, 9)], &[]], at(14));
     let mut long = to_and_fro(&[256, 256, 256, 256, 1]);
     long[0][0].to = 9;
-    e.plan("1,025 moves, the first of them faulty", &wide, plan_bytes(&long), at(14));
-    e.plan("512 steps counted, none there", &home, changed(&plan_bytes(&[]), |b| b[5] = 2), at(14));
+    e.both("1,025 moves, the first of them faulty", &wide, &long, at(14));
+    for version in Version::ALL {
+        let many = changed(&header(version), |b| b[5] = 2);
+        e.plan("512 steps counted, none there", &home, many, at(14));
+    }
+
+    // The longest plans there are, and a byte more.
+    let longest = to_and_fro(&[2; 512]);
+    for (plan, length) in [(bare(&longest), 3_079), (named(&wide, &longest), 4_103)] {
+        let bytes = plan_bytes(&plan);
+        assert_eq!(bytes.len(), length);
+        e.plan(&format!("{length} bytes"), &wide, bytes.clone(), None);
+        let over = restated(&bytes, |b| b.push(0));
+        e.plan(&format!("{length} bytes and one more"), &wide, over, at(14));
+        let short = restated(&bytes, cut);
+        e.plan(&format!("{length} bytes less one"), &wide, short, at(14));
+    }
 
     // The longest and dearest kind of plan: the largest VMs on nodes that hold just one.
     let big = room(
@@ -671,10 +792,10 @@ fn plan_counts(e: &mut Edges) {
     );
     let sway = |i: usize| steps(&[&[(0, 2 - 2 * (i % 2)), (1, 3 - 2 * (i % 2))]]).remove(0);
     let dear: Vec<Step> = (0..512).map(sway).collect();
-    e.plan("1,024 moves of the largest VMs", &big, plan_bytes(&dear), None);
+    e.both("1,024 moves of the largest VMs", &big, &dear, None);
 }
 
-// ---------------------------------------------------------------- 15 and 16
+// ---------------------------------------------------------------- 15
 
 fn move_names(e: &mut Edges) {
     let home = at_home();
@@ -697,6 +818,147 @@ fn move_names(e: &mut Edges) {
     let full = room(&[node(300, 0), node(300, 0)], &vec![vm(1, 0, 0, 0); 256], &[]);
     e.steps("VM 255 of 256", &full, &[&[(255, 1)], &[(255, 0)]], None);
 }
+
+// ---------------------------------------------------------------- 27
+
+/// Sources that are right, wrong, or no node; and where 15 comes first.
+fn sources(e: &mut Edges) {
+    let home = at_home();
+    let at = |number: u8| Some((number, 1));
+    e.sourced("source, away and back", &home, &[&[(0, 0, 2)], &[(0, 2, 0)]], None);
+    e.sourced("source another node", &home, &[&[(0, 1, 2)], &[(0, 2, 0)]], at(27));
+    e.sourced("source N - 1", &home, &[&[(0, 2, 1)], &[(0, 1, 0)]], at(27));
+    for source in [3, 63, 64, 254, 255] {
+        e.sourced(&format!("source {source}"), &home, &[&[(0, source, 2)]], at(27));
+        let stays = format!("source {source}, to where it is");
+        e.sourced(&stays, &home, &[&[(0, source, 0)]], at(15));
+    }
+    e.sourced("source is the destination", &home, &[&[(0, 2, 2)]], at(27));
+    e.sourced("source and destination are the place", &home, &[&[(0, 0, 0)]], at(15));
+    e.sourced("to where it is, from elsewhere", &home, &[&[(0, 2, 0)]], at(15));
+    e.sourced("source wrong, to node N", &home, &[&[(0, 1, 3)]], at(15));
+    e.sourced("source wrong, VM V", &home, &[&[(2, 1, 0)]], at(15));
+    e.sourced("source wrong, VM 255", &home, &[&[(255, 1, 0)]], at(15));
+    e.sourced("source wrong, a VM twice", &home, &[&[(0, 1, 2), (0, 0, 2)]], at(15));
+    e.sourced("source wrong, VMs fall", &home, &[&[(1, 0, 2), (0, 0, 2)]], at(15));
+    e.sourced("source wrong, then one stays", &home, &[&[(0, 1, 2), (1, 1, 1)]], at(15));
+    e.sourced("one stays, then source wrong", &home, &[&[(0, 0, 0), (1, 0, 2)]], at(15));
+    e.sourced("the second source wrong", &home, &[&[(0, 0, 2), (1, 0, 2)]], at(27));
+    e.sourced("both sources wrong", &home, &[&[(0, 1, 2), (1, 0, 2)]], at(27));
+    e.sourced("source and destination change places", &home, &[&[(0, 2, 0), (1, 2, 1)]], at(15));
+    e.sourced("source wrong, nobody home", &home, &[&[(0, 1, 2)]], at(27));
+    let none = room(&[node(1, 1)], &[], &[]);
+    e.sourced("source, no VMs", &none, &[&[(0, 0, 0)]], at(15));
+
+    let wide = room(&vec![node(9, 9); 64], &[vm(1, 1, 63, 62)], &[]);
+    e.sourced("source 63 of 64 nodes", &wide, &[&[(0, 63, 62)]], None);
+    e.sourced("source 64 of 64 nodes", &wide, &[&[(0, 64, 62)]], at(27));
+    let full = room(&vec![node(300, 300); 2], &vec![vm(1, 1, 0, 1); 256], &[]);
+    let all = |wrong: Option<usize>| {
+        let mut plan = named(&full, &[(0..256).map(|vm| Move::bare(vm, 1)).collect()]);
+        wrong.into_iter().for_each(|vm| plan.steps[0][vm].from = Some(1));
+        plan_bytes(&plan)
+    };
+    e.plan("256 sources", &full, all(None), None);
+    e.plan("256 sources, the first wrong", &full, all(Some(0)), at(27));
+    e.plan("256 sources, the last wrong", &full, all(Some(255)), at(27));
+}
+
+/// In one step 27 comes before 16, 17 and 18, and behind it the other faults come as they do
+/// without sources. 14 comes before all of them.
+fn sources_before_other_faults(e: &mut Edges) {
+    let closed = |list: &[Constraint]| room(&at_home().nodes, &at_home().vms, list);
+    let at = |number: u8, step: u16| Some((number, step));
+    let banned = closed(&[ban(&[0], &[2])]);
+    e.sourced("16, source right", &banned, &[&[(0, 0, 2)]], at(16, 1));
+    e.sourced("27 before 16", &banned, &[&[(0, 1, 2)]], at(27, 1));
+    e.sourced("27 at a later move before 16", &banned, &[&[(0, 0, 2), (1, 0, 2)]], at(27, 1));
+    e.sourced("the banned node as the source", &banned, &[&[(0, 2, 1)]], at(27, 1));
+    let fenced = closed(&[fence(&[0], &[0, 1])]);
+    e.sourced("27 before 16, out of a fence", &fenced, &[&[(0, 1, 2)]], at(27, 1));
+    let small = room(&[node(9, 9), node(1, 9), node(9, 9)], &[vm(1, 1, 0, 0), vm(1, 1, 1, 1)], &[]);
+    e.sourced("17, source right", &small, &[&[(0, 0, 1)]], at(17, 1));
+    e.sourced("27 before 17", &small, &[&[(0, 2, 1)]], at(27, 1));
+    e.sourced("27 at a later move before 17", &small, &[&[(0, 0, 1), (1, 0, 2)]], at(27, 1));
+    let apart = closed(&[spread(&[0, 1])]);
+    e.sourced("18, source right", &apart, &[&[(0, 0, 1)]], at(18, 1));
+    e.sourced("27 before 18", &apart, &[&[(0, 2, 1)]], at(27, 1));
+    e.sourced("27 at a later move before 18", &apart, &[&[(0, 0, 1), (1, 0, 2)]], at(27, 1));
+    let tight = room(
+        &[node(1, 1), node(1, 1), node(1, 1)],
+        &[vm(1, 1, 0, 0), vm(1, 1, 1, 1)],
+        &[ban(&[1], &[2]), spread(&[0, 1])],
+    );
+    e.sourced("27 before 16, 17 and 18", &tight, &[&[(0, 2, 1), (1, 1, 2)]], at(27, 1));
+    e.sourced("the same, sources right", &tight, &[&[(0, 0, 1), (1, 1, 2)]], at(16, 1));
+    e.sourced("15 before 27 and all those", &tight, &[&[(0, 2, 1), (1, 1, 1)]], at(15, 1));
+
+    let wrong = plan_bytes(&sourced(&[&[(0, 1, 2)]]));
+    let home = at_home();
+    e.plan("14 before 27", &home, restated(&wrong, |b| b.push(0)), at(14, 0));
+    e.plan("13 before 27", &home, changed(&wrong, |b| b[4] -= 1), at(13, 0));
+    e.plan("12 before 27", &home, changed(&wrong, |b| b[0] = 3), at(12, 0));
+    let empty_behind = plan_bytes(&sourced(&[&[(0, 1, 2)], &[]]));
+    e.plan("an empty step behind a wrong source", &home, empty_behind, at(14, 0));
+}
+
+/// The source is the place when the step starts, which is no longer the record's once the VM has
+/// moved; and the first step at fault decides.
+fn sources_step_by_step(e: &mut Edges) {
+    let at = |number: u8, step: u16| Some((number, step));
+    let home = at_home();
+    e.sourced("where step 1 left it", &home, &[&[(0, 0, 1)], &[(0, 1, 2)], &[(0, 2, 0)]], None);
+    e.sourced("the record's node in step 2", &home, &[&[(0, 0, 1)], &[(0, 0, 2)]], at(27, 2));
+    e.sourced(
+        "the record's node once it is back there",
+        &home,
+        &[&[(0, 0, 1)], &[(0, 1, 0)], &[(0, 0, 2)], &[(0, 2, 0)]],
+        None,
+    );
+    e.sourced(
+        "where step 1 left it, in step 3",
+        &home,
+        &[&[(0, 0, 1)], &[(0, 1, 2)], &[(0, 1, 0)]],
+        at(27, 3),
+    );
+    e.sourced("where an earlier move goes", &home, &[&[(0, 0, 2), (1, 2, 0)]], at(27, 1));
+    e.sourced("where a later move goes", &home, &[&[(0, 2, 1), (1, 1, 2)]], at(27, 1));
+    e.sourced("where another VM's step went", &home, &[&[(0, 0, 2)], &[(1, 2, 0)]], at(27, 2));
+    let swap = room(&at_home().nodes, &[vm(1, 1, 0, 1), vm(1, 1, 1, 0)], &[]);
+    e.sourced("both change places at once", &swap, &[&[(0, 0, 1), (1, 1, 0)]], None);
+    e.sourced("the same, sources after the step", &swap, &[&[(0, 1, 1), (1, 0, 0)]], at(27, 1));
+    e.sourced("the same, sources changed over", &swap, &[&[(0, 1, 1), (1, 1, 0)]], at(27, 1));
+
+    e.sourced("27 in step 1, 15 in step 2", &home, &[&[(0, 1, 2)], &[(9, 9, 9)]], at(27, 1));
+    e.sourced("15 in step 1, 27 in step 2", &home, &[&[(0, 0, 0)], &[(1, 0, 2)]], at(15, 1));
+    let banned = room(&at_home().nodes, &at_home().vms, &[ban(&[0], &[2])]);
+    e.sourced("16 in step 1, 27 in step 2", &banned, &[&[(0, 0, 2)], &[(1, 0, 2)]], at(16, 1));
+    e.sourced("27 in step 1, 16 in step 2", &banned, &[&[(1, 0, 2)], &[(0, 0, 2)]], at(27, 1));
+    let apart = room(&at_home().nodes, &at_home().vms, &[spread(&[0, 1])]);
+    e.sourced("18 in step 1, 27 in step 2", &apart, &[&[(0, 0, 1)], &[(1, 0, 2)]], at(18, 1));
+
+    let a = cluster_a();
+    e.sourced("A planned", &a, &[&[(0, 0, 2)], &[(1, 1, 0)], &[(0, 2, 1)]], None);
+    let stale: &[&[(usize, usize, usize)]] = &[&[(0, 0, 2)], &[(1, 1, 0)], &[(0, 0, 1)]];
+    e.sourced("A planned, the record's node in step 3", &a, stale, at(27, 3));
+    e.sourced("A, both at once, one source wrong", &a, &[&[(0, 2, 1), (1, 1, 0)]], at(27, 1));
+    e.sourced("A, both at once, sources right", &a, &[&[(0, 0, 1), (1, 1, 0)]], at(17, 1));
+
+    let wide = room(&vec![node(9, 9); 2], &[vm(1, 1, 0, 0), vm(1, 1, 0, 0)], &[]);
+    let longest = |wrong: Option<(usize, usize)>| {
+        let mut plan = named(&wide, &to_and_fro(&[2; 512]));
+        let m = wrong.map(|(step, vm)| &mut plan.steps[step - 1][vm]);
+        m.into_iter().for_each(|m| m.from = Some(m.to));
+        plan_bytes(&plan)
+    };
+    e.plan("512 steps with sources", &wide, longest(None), None);
+    for (step, vm) in [(1, 0), (1, 1), (2, 0), (256, 1), (511, 0), (512, 0), (512, 1)] {
+        let name = format!("512 steps, the source of VM {vm} wrong in step {step}");
+        e.plan(&name, &wide, longest(Some((step, vm))), at(27, step as u16));
+    }
+}
+
+// ---------------------------------------------------------------- 16
 
 fn closed_nodes(e: &mut Edges) {
     let closed = |list: &[Constraint]| room(&at_home().nodes, &at_home().vms, list);

@@ -3,10 +3,11 @@
 
 use crate::planner::{make_steps, make_steps_from, BUFFER};
 use crate::records::{
-    cluster_bytes_with, constraint_body, plan_bytes, state_length, Constraint, Move, Node, Room,
-    Step, Vm, CLUSTER_HEADER, NODE_ROW, PLAN_HEADER, VM_ROW,
+    cluster_bytes_with, constraint_body, plan_bytes, state_length, Constraint, Move, Node, Plan,
+    Room, Step, Vm, CLUSTER_HEADER, NODE_ROW, PLAN_HEADER, VM_ROW,
 };
 use crate::rules::{mates, may_go, step_fault, Book, Placement, Sum};
+use crate::sources::{bare, named};
 
 pub const MOST_MEMORY: u64 = 16_777_215;
 pub const MOST_CPU: u64 = 65_535;
@@ -364,23 +365,147 @@ pub fn ring(rng: &mut Rng, n: usize) -> Room {
 
 // ---------------------------------------------------------------- plans
 
-/// A plan for a room: the planner's own, that one spoilt, a detour that the planner then ends,
-/// or moves drawn blindly.
-pub fn plan(rng: &mut Rng, room: &Room) -> Vec<Step> {
-    let mut steps = match rng.below(10) {
-        0..=5 => make_steps(room).0,
-        6..=8 => detour(rng, room),
-        _ => (0..rng.below(4)).map(|_| blind_step(rng, room)).collect(),
-    };
-    if rng.chance(65) {
-        for _ in 0..rng.range(1, 3) {
-            spoil(rng, room, &mut steps);
-        }
+/// Where the steps of a generated plan come from, and what sources it names.
+#[derive(Clone, Copy, Debug, PartialEq, Eq)]
+pub enum Origin {
+    /// The planner's own steps; every source that is named is right.
+    Planner,
+    /// Other steps; every source that is named is right.
+    Spoilt,
+    /// Sources named before the steps were spoilt.
+    Stale,
+    /// All sources right but one.
+    OneWrong,
+    /// Source and destination of a move, or of all of them, have changed places.
+    TurnedRound,
+    /// A plan made for another cluster.
+    OtherFile,
+}
+
+impl Origin {
+    pub const ALL: [Origin; 6] = [
+        Origin::Planner,
+        Origin::Spoilt,
+        Origin::Stale,
+        Origin::OneWrong,
+        Origin::TurnedRound,
+        Origin::OtherFile,
+    ];
+}
+
+/// A plan of either version for a room.
+pub fn plan(rng: &mut Rng, room: &Room) -> (Plan, Origin) {
+    if rng.chance(10) {
+        return (other_file(rng, room), Origin::OtherFile);
+    }
+    let (steps, planned) = some_steps(rng, room);
+    if planned && rng.chance(50) {
+        return (either(rng, room, &steps), Origin::Planner);
+    }
+    spoilt_plan(rng, room, &steps)
+}
+
+/// Steps for a room, and whether they are the planner's own: those, a detour that the planner
+/// then ends, or moves drawn blindly.
+fn some_steps(rng: &mut Rng, room: &Room) -> (Vec<Step>, bool) {
+    match rng.below(10) {
+        0..=5 => (make_steps(room).0, true),
+        6..=8 => (detour(rng, room), false),
+        _ => ((0..rng.below(4)).map(|_| blind_step(rng, room)).collect(), false),
+    }
+}
+
+/// Steps as a plan of one version or the other, with sources that are right.
+pub fn either(rng: &mut Rng, room: &Room, steps: &[Step]) -> Plan {
+    if rng.chance(45) {
+        return bare(steps);
+    }
+    named(room, steps)
+}
+
+/// A plan with something wrong in its steps or its sources, most often.
+fn spoilt_plan(rng: &mut Rng, room: &Room, steps: &[Step]) -> (Plan, Origin) {
+    if rng.chance(12) {
+        let mut stale = named(room, steps).steps;
+        (0..rng.range(1, 3)).for_each(|_| spoil(rng, room, &mut stale));
+        return (named(room, &stale), Origin::Stale);
+    }
+    let mut steps = steps.to_vec();
+    if rng.chance(80) {
+        (0..rng.range(1, 3)).for_each(|_| spoil(rng, room, &mut steps));
     }
     if rng.chance(2) {
         stretch(rng, room, &mut steps);
     }
-    steps
+    match rng.below(10) {
+        0 | 1 if !steps.is_empty() => (one_wrong(rng, room, named(room, &steps)), Origin::OneWrong),
+        2 if !steps.is_empty() => (turned_round(rng, named(room, &steps)), Origin::TurnedRound),
+        _ => (either(rng, room, &steps), Origin::Spoilt),
+    }
+}
+
+/// Gives one move another source: the record's node, the destination, a node that some move goes
+/// to, any node, or a number that no node has.
+pub fn one_wrong(rng: &mut Rng, room: &Room, mut plan: Plan) -> Plan {
+    let n = room.nodes.len();
+    let goes_to: Vec<usize> = plan.steps.iter().flatten().map(|m| m.to).collect();
+    on_a_move(rng, &mut plan.steps, |rng, m| {
+        let current = room.vms.get(m.vm).map_or(0, |vm| vm.current);
+        let (other, any) = (rng.pick(&goes_to), rng.below(n));
+        let source = rng.pick(&[current, current, m.to, other, any, n, 64, 255]);
+        // A source that was right is not drawn again.
+        m.from = Some(if m.from == Some(source) { (source + 1) % (n + 1) } else { source });
+    });
+    plan
+}
+
+/// Source and destination of a move, or of all moves, change places.
+pub fn turned_round(rng: &mut Rng, mut plan: Plan) -> Plan {
+    let turn = |m: &mut Move| {
+        let from = m.from.replace(m.to);
+        m.to = from.unwrap_or(m.to);
+    };
+    if rng.chance(50) {
+        plan.steps.iter_mut().flatten().for_each(turn);
+    } else {
+        on_a_move(rng, &mut plan.steps, |_, m| turn(m));
+    }
+    plan
+}
+
+/// The planner's plan for another cluster, as if files had been swapped: one in which VMs stand
+/// elsewhere, this one after some of its steps, or one that has nothing to do with this one.
+pub fn other_file(rng: &mut Rng, room: &Room) -> Plan {
+    let other = match rng.below(8) {
+        0 => self::room(rng, Size::Tiny),
+        1 | 2 => later(rng, room),
+        _ => elsewhere(rng, room),
+    };
+    either(rng, &other, &make_steps(&other).0)
+}
+
+/// The same cluster with some VMs on other nodes.
+fn elsewhere(rng: &mut Rng, room: &Room) -> Room {
+    let mut other = room.clone();
+    let percent = rng.pick(&[10, 30, 100]);
+    for vm in &mut other.vms {
+        if rng.chance(percent) {
+            vm.current = rng.below(room.nodes.len());
+        }
+    }
+    other
+}
+
+/// The same cluster when some of the planner's steps have been made.
+fn later(rng: &mut Rng, room: &Room) -> Room {
+    let steps = make_steps(room).0;
+    let done = &steps[..rng.below(steps.len() + 1)];
+    let here = done.iter().fold(Placement::current(room), |here, step| here.after(room, step));
+    let mut other = room.clone();
+    for (vm, place) in other.vms.iter_mut().zip(here.place) {
+        vm.current = place;
+    }
+    other
 }
 
 /// Puts a sound step and its way back in front of a plan, so often that the plan comes near 512
@@ -389,7 +514,7 @@ fn stretch(rng: &mut Rng, room: &Room, steps: &mut Vec<Step>) {
     let book = Book::of(room);
     let here = Placement::current(room);
     let there = random_sound_step(rng, room, &book, &here, 30);
-    let back: Step = there.iter().map(|m| Move { vm: m.vm, to: here.place[m.vm] }).collect();
+    let back: Step = there.iter().map(|m| Move::bare(m.vm, here.place[m.vm])).collect();
     let returns = step_fault(room, &book, &here.after(room, &there), &back).is_none();
     if there.is_empty() || !returns {
         return;
@@ -413,7 +538,7 @@ fn random_sound_step(
     let mut step = Vec::new();
     for vm in 0..room.vms.len() {
         if rng.chance(percent) {
-            step.push(Move { vm, to: rng.below(room.nodes.len()) });
+            step.push(Move::bare(vm, rng.below(room.nodes.len())));
             if step_fault(room, book, here, &step).is_some() {
                 step.pop();
             }
@@ -450,7 +575,7 @@ fn blind_step(rng: &mut Rng, room: &Room) -> Step {
         Some(row) if n > 1 && rng.chance(95) => (row.current + rng.range(1, n - 1)) % n,
         _ => rng.below(n),
     };
-    vms.into_iter().map(|vm| Move { vm, to: away(rng, vm) }).collect()
+    vms.into_iter().map(|vm| Move::bare(vm, away(rng, vm))).collect()
 }
 
 /// Changes a plan in one place. Steps left empty go, as they would only be fault 14.
@@ -557,7 +682,7 @@ fn add_move(rng: &mut Rng, steps: &mut Vec<Step>, m: Move) {
 
 fn extra_move(rng: &mut Rng, room: &Room, steps: &mut Vec<Step>) {
     if !room.vms.is_empty() {
-        let m = Move { vm: rng.below(room.vms.len()), to: rng.below(room.nodes.len()) };
+        let m = Move::bare(rng.below(room.vms.len()), rng.below(room.nodes.len()));
         add_move(rng, steps, m);
     }
 }
@@ -570,7 +695,7 @@ fn to_a_closed_node(rng: &mut Rng, room: &Room, steps: &mut Vec<Step>) {
         let closed: Vec<usize> =
             (0..room.nodes.len()).filter(|&node| !may_go(room, vm, node)).collect();
         if !closed.is_empty() {
-            let m = Move { vm, to: rng.pick(&closed) };
+            let m = Move::bare(vm, rng.pick(&closed));
             return add_move(rng, steps, m);
         }
     }
@@ -584,7 +709,7 @@ fn to_a_mate(rng: &mut Rng, room: &Room, steps: &mut Vec<Step>) {
         let mates = mates(room, vm);
         if !mates.is_empty() {
             let mate = &room.vms[rng.pick(&mates)];
-            let m = Move { vm, to: rng.pick(&[mate.current, mate.target]) };
+            let m = Move::bare(vm, rng.pick(&[mate.current, mate.target]));
             if rng.chance(50) {
                 return steps.insert(0, vec![m]);
             }
@@ -600,7 +725,7 @@ fn crowd(rng: &mut Rng, room: &Room, steps: &mut [Step]) {
         for vm in 0..room.vms.len() {
             let free = room.vms[vm].current != to && step.iter().all(|m| m.vm != vm);
             if free && rng.chance(30) {
-                insert(step, Move { vm, to });
+                insert(step, Move::bare(vm, to));
             }
         }
     }
@@ -771,9 +896,9 @@ fn leave_too_few(rng: &mut Rng, bytes: &mut Vec<u8>) {
 /// Damages a plan record's bytes: faults 11 to 14, and now and then any other.
 pub fn damage_plan(rng: &mut Rng, bytes: &mut Vec<u8>) {
     let step_at = PLAN_HEADER;
-    match rng.below(15) {
+    match rng.below(16) {
         0 => leave_too_few(rng, bytes),
-        1 => bytes[0] = rng.pick(&[0, 2, 255]),
+        1 => bytes[0] = rng.pick(&[0, 3, 255]),
         2 => bytes[4] = bytes[4].wrapping_add(rng.pick(&[1, 255])),
         3 => bytes[rng.pick(&[1, 2])] = rng.pick(&[1, 128, 255]),
         4 => bytes.push(0),
@@ -797,17 +922,21 @@ pub fn damage_plan(rng: &mut Rng, bytes: &mut Vec<u8>) {
             bytes.extend([0, 0]);
             state_length(bytes);
         }
+        // The other version's number.
+        13 => bytes[0] = 3 - bytes[0],
         _ => flip(rng, bytes),
     }
 }
 
 // ---------------------------------------------------------------- whole inputs
 
-/// One input for the checker (cluster and plan) and the planner (cluster and buffer length).
+/// One input for the checker (cluster and plan) and the planner (cluster and buffer length), with
+/// the origin of a plan that has bytes, before any damage to them.
 #[derive(Clone, Debug)]
 pub struct Case {
     pub cluster: Vec<u8>,
     pub plan: Vec<u8>,
+    pub origin: Option<Origin>,
     pub buffer: usize,
 }
 
@@ -841,7 +970,7 @@ pub fn sized_case(rng: &mut Rng, size: Size) -> Case {
         55 => swaps(rng.range(1, 6)),
         _ => room(rng, size),
     };
-    let plan = plan_case(rng, &room);
+    let (plan, origin) = plan_case(rng, &room);
     let damaged = rng.chance(30);
     if damaged && rng.chance(45) {
         damage_room(rng, &mut room);
@@ -861,19 +990,20 @@ pub fn sized_case(rng: &mut Rng, size: Size) -> Case {
         3 => BUFFER + 1,
         _ => BUFFER,
     };
-    Case { cluster, plan, buffer }
+    Case { cluster, plan, origin, buffer }
 }
 
 /// A plan record for a room, now and then damaged, or no bytes: most often where nothing needs
 /// moving.
-fn plan_case(rng: &mut Rng, room: &Room) -> Vec<u8> {
+fn plan_case(rng: &mut Rng, room: &Room) -> (Vec<u8>, Option<Origin>) {
     let all_home = Placement::current(room).out_of_place(room).is_empty();
     if rng.chance(if all_home { 15 } else { 6 }) {
-        return Vec::new();
+        return (Vec::new(), None);
     }
-    let mut bytes = plan_bytes(&plan(rng, room));
+    let (plan, origin) = plan(rng, room);
+    let mut bytes = plan_bytes(&plan);
     if rng.chance(15) {
         damage_plan(rng, &mut bytes);
     }
-    bytes
+    (bytes, Some(origin))
 }

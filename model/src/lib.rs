@@ -15,10 +15,12 @@ pub mod puzzles;
 pub mod reasons;
 pub mod records;
 pub mod rules;
+pub mod sources;
 pub mod text;
 
 pub use pack::{pack_answer, pack_verdict};
 pub use planner::{build, Answer};
 pub use records::{cluster_bytes, parse_cluster, parse_plan, plan_bytes};
-pub use records::{Constraint, Move, Node, Room, Step, Vm};
+pub use records::{Constraint, Move, Node, Plan, Room, Step, Version, Vm};
 pub use rules::{check, Verdict};
+pub use sources::{bare, named};

@@ -30,7 +30,8 @@ pub struct Found {
 }
 
 /// A step under way: the room, where VMs were when it started, and its moves. The step must have
-/// no fault 15, so that each VM moves at most once and to another node.
+/// no fault 15, so that each VM moves at most once and to another node. Sources that its moves
+/// name are not looked at.
 pub struct Run<'a> {
     pub room: &'a Room,
     pub start: &'a [usize],
@@ -72,7 +73,7 @@ impl Run<'_> {
     /// Tests the begin of a waiting move as things stand: the destination's sums with the VM
     /// included, and the mates that count on the destination.
     pub fn test_begin(&self, phases: &[Phase], i: usize) -> Found {
-        let Move { vm, to } = self.step[i];
+        let Move { vm, to, .. } = self.step[i];
         let begun = with(phases, i, Phase::Running);
         Found {
             misfit: !self.is_within(&begun, to),

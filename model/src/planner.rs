@@ -2,6 +2,7 @@
 
 use crate::records::{plan_bytes, Move, Room, Step};
 use crate::rules::{accepted_cluster, plan_cost, step_fault, Book, Placement};
+use crate::sources::named;
 
 /// What building a plan gives back, beside the record it writes.
 #[derive(Clone, Copy, Debug, PartialEq, Eq)]
@@ -11,11 +12,11 @@ pub enum Answer {
     Refused { number: u8, step: u16 },
 }
 
-/// The buffer that any plan the planner makes fits in.
-pub const BUFFER: usize = 2_051;
+/// The buffer that any plan the planner makes fits in: a header, and 511 steps of one move.
+pub const BUFFER: usize = 2_562;
 
-/// Builds a plan for a cluster and writes its record at the front of `out`. Bytes behind the
-/// record stay; a refusal changes nothing.
+/// Builds a plan for a cluster and writes its record, of version 2, at the front of `out`. Bytes
+/// behind the record stay; a refusal changes nothing.
 pub fn build(cluster: &[u8], out: &mut [u8]) -> Answer {
     let room = match accepted_cluster(cluster) {
         Ok(room) => room,
@@ -25,7 +26,7 @@ pub fn build(cluster: &[u8], out: &mut [u8]) -> Answer {
         return Answer::Refused { number: 10, step: 0 };
     }
     let (steps, all_home) = make_steps(&room);
-    let record = plan_bytes(&steps);
+    let record = plan_bytes(&named(&room, &steps));
     out[..record.len()].copy_from_slice(&record);
 
     let cost = plan_cost(&room, &steps);
@@ -38,7 +39,8 @@ pub fn build(cluster: &[u8], out: &mut [u8]) -> Answer {
     }
 }
 
-/// The planner's steps from the current placement, and whether everybody got home.
+/// The planner's steps from the current placement, and whether everybody got home. Sources are
+/// named when the steps are written.
 pub fn make_steps(room: &Room) -> (Vec<Step>, bool) {
     make_steps_from(room, Placement::current(room))
 }
@@ -71,7 +73,7 @@ pub fn make_steps_from(room: &Room, start: Placement) -> (Vec<Step>, bool) {
 fn direct_step(room: &Room, book: &Book, here: &Placement) -> Step {
     let mut step = Vec::new();
     for vm in here.out_of_place(room) {
-        step.push(Move { vm, to: room.vms[vm].target });
+        step.push(home(room, vm));
         if step_fault(room, book, here, &step).is_some() {
             step.pop();
         }
@@ -83,7 +85,7 @@ fn direct_step(room: &Room, book: &Book, here: &Placement) -> Step {
 fn useful_pivot(room: &Room, book: &Book, here: &Placement) -> Option<Move> {
     for vm in here.out_of_place(room) {
         for to in 0..room.nodes.len() {
-            let pivot = Move { vm, to };
+            let pivot = Move::bare(vm, to);
             if is_useful(room, book, here, pivot) {
                 return Some(pivot);
             }
@@ -95,7 +97,7 @@ fn useful_pivot(room: &Room, book: &Book, here: &Placement) -> Option<Move> {
 /// Whether a move of a VM out of place goes to a third node, is sound alone, and lets some other
 /// VM go home at once.
 fn is_useful(room: &Room, book: &Book, here: &Placement, pivot: Move) -> bool {
-    let Move { vm, to } = pivot;
+    let Move { vm, to, .. } = pivot;
     if to == here.place[vm] || to == room.vms[vm].target {
         return false;
     }
@@ -110,5 +112,10 @@ fn is_useful(room: &Room, book: &Book, here: &Placement, pivot: Move) -> bool {
 
 /// Whether moving this VM alone to its target is a sound step.
 fn has_direct_move(room: &Room, book: &Book, here: &Placement, vm: usize) -> bool {
-    step_fault(room, book, here, &[Move { vm, to: room.vms[vm].target }]).is_none()
+    step_fault(room, book, here, &[home(room, vm)]).is_none()
+}
+
+/// The move of a VM to its target.
+fn home(room: &Room, vm: usize) -> Move {
+    Move::bare(vm, room.vms[vm].target)
 }

@@ -33,15 +33,71 @@ pub struct Room {
     pub constraints: Vec<Constraint>,
 }
 
-/// One move of a plan: which VM, and where it goes.
+/// One move of a plan: which VM, the source that it names if it names one, and where it goes.
 #[derive(Clone, Copy, Debug, PartialEq, Eq)]
 pub struct Move {
     pub vm: usize,
+    pub from: Option<usize>,
     pub to: usize,
+}
+
+impl Move {
+    /// A move that names no source.
+    pub fn bare(vm: usize, to: usize) -> Move {
+        Move { vm, from: None, to }
+    }
 }
 
 /// One step of a plan.
 pub type Step = Vec<Move>;
+
+/// The versions of a plan record. A move is VM and destination in version 1, and VM, source and
+/// destination in version 2.
+#[derive(Clone, Copy, Debug, PartialEq, Eq)]
+pub enum Version {
+    One = 1,
+    Two = 2,
+}
+
+impl Version {
+    pub const ALL: [Version; 2] = [Version::One, Version::Two];
+
+    /// The version with this number.
+    pub fn of(number: u8) -> Option<Version> {
+        Version::ALL.into_iter().find(|&version| version as u8 == number)
+    }
+
+    /// The version of a plan with such a move in it.
+    pub fn of_move(m: &Move) -> Version {
+        if m.from.is_some() {
+            Version::Two
+        } else {
+            Version::One
+        }
+    }
+
+    /// How many bytes a move has.
+    pub fn width(self) -> usize {
+        match self {
+            Version::One => 2,
+            Version::Two => 3,
+        }
+    }
+}
+
+/// A plan record, read. In version 2 every move names a source, in version 1 none does.
+#[derive(Clone, Debug, PartialEq, Eq)]
+pub struct Plan {
+    pub version: Version,
+    pub steps: Vec<Step>,
+}
+
+impl Plan {
+    /// The plan of this version that has no steps.
+    pub fn empty(version: Version) -> Plan {
+        Plan { version, steps: Vec::new() }
+    }
+}
 
 pub const CLUSTER_HEADER: usize = 11;
 pub const PLAN_HEADER: usize = 7;
@@ -183,26 +239,26 @@ fn groups(rest: &mut &[u8], n: usize) -> Option<Vec<Vec<usize>>> {
 }
 
 /// Reads a plan record; the error is the refusal number, 11 to 14. 0 bytes are a plan of no
-/// steps, so 11 is for 1 to 6 bytes. This is shape only: whether VMs and nodes exist, and
-/// whether VMs rise, is left to the rules (fault 15).
-pub fn parse_plan(bytes: &[u8]) -> Result<Vec<Step>, u8> {
+/// steps, given as one of version 1, so 11 is for 1 to 6 bytes. This is shape only: whether VMs
+/// and nodes exist, whether VMs rise (fault 15) and whether sources are right (fault 27) is left
+/// to the rules.
+pub fn parse_plan(bytes: &[u8]) -> Result<Plan, u8> {
     if bytes.is_empty() {
-        return Ok(Vec::new());
+        return Ok(Plan::empty(Version::One));
     }
     if bytes.len() < PLAN_HEADER {
         return Err(11);
     }
-    if bytes[0] != 1 {
-        return Err(12);
-    }
+    let version = Version::of(bytes[0]).ok_or(12)?;
     if count(&bytes[1..5]) != bytes.len() {
         return Err(13);
     }
-    read_steps(&bytes[PLAN_HEADER..], count(&bytes[5..7])).ok_or(14)
+    let steps = read_steps(&bytes[PLAN_HEADER..], count(&bytes[5..7]), version.width());
+    Ok(Plan { version, steps: steps.ok_or(14)? })
 }
 
-/// All steps of a plan. `None` is fault 14.
-fn read_steps(mut rest: &[u8], how_many: usize) -> Option<Vec<Step>> {
+/// All steps of a plan whose moves have `width` bytes. `None` is fault 14.
+fn read_steps(mut rest: &[u8], how_many: usize, width: usize) -> Option<Vec<Step>> {
     if how_many > 512 {
         return None;
     }
@@ -217,10 +273,16 @@ fn read_steps(mut rest: &[u8], how_many: usize) -> Option<Vec<Step>> {
         if moves_in_all > 1_024 {
             return None;
         }
-        let rows = take(&mut rest, 2 * moves)?.chunks(2);
-        steps.push(rows.map(|r| Move { vm: usize::from(r[0]), to: usize::from(r[1]) }).collect());
+        steps.push(take(&mut rest, width * moves)?.chunks(width).map(read_move).collect());
     }
     rest.is_empty().then_some(steps)
+}
+
+/// A move's bytes: the VM first, the destination last, and a source between them if it is named.
+fn read_move(row: &[u8]) -> Move {
+    let byte = |at: usize| usize::from(row[at]);
+    let last = row.len() - 1;
+    Move { vm: byte(0), from: (last == 2).then(|| byte(1)), to: byte(last) }
 }
 
 // ---------------------------------------------------------------- writing
@@ -230,20 +292,19 @@ fn put(bytes: &mut Vec<u8>, value: u64, width: usize) {
     bytes.extend_from_slice(&value.to_be_bytes()[8 - width..]);
 }
 
-/// Writes a plan record, its header also if there are no steps. It tests nothing, so that
-/// generators may write faulty ones.
-pub fn plan_bytes(steps: &[Step]) -> Vec<u8> {
-    let length = PLAN_HEADER + steps.iter().map(|s| 2 + 2 * s.len()).sum::<usize>();
-    let mut bytes = vec![1];
-    put(&mut bytes, length as u64, 4);
-    put(&mut bytes, steps.len() as u64, 2);
-    for step in steps {
+/// Writes a plan record, its header also if there are no steps. It tests nothing but that the
+/// moves are of the plan's version, so that generators may write faulty ones.
+pub fn plan_bytes(plan: &Plan) -> Vec<u8> {
+    let mut bytes = vec![plan.version as u8, 0, 0, 0, 0];
+    put(&mut bytes, plan.steps.len() as u64, 2);
+    for step in &plan.steps {
         put(&mut bytes, step.len() as u64, 2);
         for m in step {
-            bytes.push(m.vm as u8);
-            bytes.push(m.to as u8);
+            assert_eq!(Version::of_move(m), plan.version, "{m:?}");
+            bytes.extend([Some(m.vm), m.from, Some(m.to)].iter().flatten().map(|&b| b as u8));
         }
     }
+    state_length(&mut bytes);
     bytes
 }
 

@@ -173,19 +173,14 @@ pub fn accepted_cluster(bytes: &[u8]) -> Result<Room, u8> {
 /// The fault of a step, if any. The number decides, not the move: each test runs over all the
 /// moves before the next test starts.
 pub fn step_fault(room: &Room, book: &Book, start: &Placement, step: &[Move]) -> Option<u8> {
-    if misnamed(room, start, step) {
-        return Some(15);
+    match step {
+        _ if misnamed(room, start, step) => Some(15),
+        _ if misplaced(start, step) => Some(27),
+        _ if step.iter().any(|m| !book.may_go[m.vm][m.to]) => Some(16),
+        _ if misfits(room, start, step) => Some(17),
+        _ if meets_mate(book, start, step) => Some(18),
+        _ => None,
     }
-    if step.iter().any(|m| !book.may_go[m.vm][m.to]) {
-        return Some(16);
-    }
-    if misfits(room, start, step) {
-        return Some(17);
-    }
-    if meets_mate(book, start, step) {
-        return Some(18);
-    }
-    None
 }
 
 /// Fault 15: an unknown VM or node, VMs that do not rise, or a move to where the VM already is.
@@ -193,6 +188,11 @@ pub fn misnamed(room: &Room, start: &Placement, step: &[Move]) -> bool {
     let rises = step.windows(2).all(|pair| pair[0].vm < pair[1].vm);
     let known = |m: &Move| m.vm < room.vms.len() && m.to < room.nodes.len();
     !rises || !step.iter().all(|m| known(m) && m.to != start.place[m.vm])
+}
+
+/// Fault 27: a move names a source that is not its VM's place. It may be sound for all that.
+pub fn misplaced(start: &Placement, step: &[Move]) -> bool {
+    step.iter().any(|m| m.from.is_some_and(|from| from != start.place[m.vm]))
 }
 
 /// Fault 17 in closed form: the worst order begins all moves before any ends, so a destination
@@ -244,17 +244,16 @@ pub fn plan_cost(room: &Room, steps: &[Step]) -> u64 {
 // ---------------------------------------------------------------- the checker
 
 /// Checks a plan for a cluster: 1 to 9, then 11 to 14 over the whole plan, then each step in
-/// turn by 15 to 18, then 19. A plan of 0 bytes has no steps, and so none of 11 to 18.
+/// turn by 15, 27, 16, 17 and 18, then 19. A plan of 0 bytes has no steps: 1 to 9, then 19.
 pub fn check(cluster: &[u8], plan: &[u8]) -> Verdict {
     let room = match accepted_cluster(cluster) {
         Ok(room) => room,
         Err(number) => return Verdict::Refused { number, step: 0 },
     };
-    let steps = match parse_plan(plan) {
-        Ok(steps) => steps,
-        Err(number) => return Verdict::Refused { number, step: 0 },
-    };
-    check_steps(&room, &steps)
+    match parse_plan(plan) {
+        Ok(plan) => check_steps(&room, &plan.steps),
+        Err(number) => Verdict::Refused { number, step: 0 },
+    }
 }
 
 /// The part of the checker behind both records' shape.

@@ -1,7 +1,7 @@
 //! What the planning program prints for a cluster record, and what a verdict looks like.
 
 use crate::planner::{build, Answer, BUFFER};
-use crate::records::{parse_cluster, parse_plan, PLAN_HEADER};
+use crate::records::{parse_plan, Version, PLAN_HEADER};
 use crate::rules::Verdict;
 
 /// A line of counts and a line for each move, or the line of a refusal.
@@ -19,10 +19,11 @@ pub fn planned(cluster: &[u8]) -> (String, Option<Vec<u8>>) {
             return (verdict_text(Verdict::Refused { number, step }), None);
         }
     };
-    let length = PLAN_HEADER + 2 * usize::from(steps) + 2 * usize::from(moves);
+    let width = Version::Two.width();
+    let length = PLAN_HEADER + 2 * usize::from(steps) + width * usize::from(moves);
     let record = out[..length].to_vec();
     let first = format!("{word} steps {steps} moves {moves} cost {cost}\n");
-    (first + &move_lines(cluster, &record), Some(record))
+    (first + &move_lines(&record), Some(record))
 }
 
 /// The line of a verdict.
@@ -34,15 +35,13 @@ pub fn verdict_text(verdict: Verdict) -> String {
 }
 
 /// Step, VM, source and destination of each move of a built plan.
-fn move_lines(cluster: &[u8], plan: &[u8]) -> String {
-    let room = parse_cluster(cluster).expect("a cluster that was planned for");
-    let steps = parse_plan(plan).expect("a plan that was built");
-    let mut place: Vec<usize> = room.vms.iter().map(|vm| vm.current).collect();
+fn move_lines(plan: &[u8]) -> String {
+    let plan = parse_plan(plan).expect("a plan that was built");
     let mut lines = String::new();
-    for (i, step) in steps.iter().enumerate() {
+    for (i, step) in plan.steps.iter().enumerate() {
         for m in step {
-            lines += &format!("{} {} {} {}\n", i + 1, m.vm, place[m.vm], m.to);
-            place[m.vm] = m.to;
+            let from = m.from.expect("a plan of version 2");
+            lines += &format!("{} {} {from} {}\n", i + 1, m.vm, m.to);
         }
     }
     lines

@@ -1,8 +1,8 @@
 //! The generators reach every refusal and every answer, and the hand-set cases come out as
 //! document 01, as amended, says.
 
-use kobdrieft_model::edges::edges;
-use kobdrieft_model::gen::{cases, Case};
+use kobdrieft_model::edges::{edges, Edge};
+use kobdrieft_model::gen::{cases, Case, Origin};
 use kobdrieft_model::rules::accepted_cluster;
 use kobdrieft_model::*;
 
@@ -40,8 +40,15 @@ fn hand_set_cases() {
 #[test]
 fn hand_set_cases_reach_every_number() {
     let list = edges();
-    for number in (1..=9).chain(11..=19) {
+    for number in (1..=9).chain(11..=19).chain([27]) {
         assert!(list.iter().any(|e| e.check.is_some_and(|(n, _)| n == number)), "{number}");
+    }
+    for version in Version::ALL {
+        for number in (0..=9).chain(13..=19) {
+            let hits = |e: &&Edge| e.check.map_or(0, |(n, _)| n) == number;
+            let of_version = |e: &&Edge| e.plan.first() == Some(&(version as u8));
+            assert!(list.iter().filter(hits).any(|e| of_version(&e)), "{version:?} {number}");
+        }
     }
     for number in 1..=10 {
         assert!(list.iter().any(|e| e.build == Some(number)), "{number}");
@@ -50,13 +57,13 @@ fn hand_set_cases_reach_every_number() {
 
 #[test]
 fn random_cases_reach_everything() {
-    let mut checks = [0; 20];
+    let mut checks = [0; 28];
     let mut builds = [0; 12];
-    for Case { cluster, plan, buffer } in cases(20, 40_000) {
+    for Case { cluster, plan, buffer, .. } in cases(20, 40_000) {
         match check(&cluster, &plan) {
             Verdict::Accepted { .. } => checks[0] += 1,
             Verdict::Refused { number, step } => {
-                assert_eq!(step > 0, (15..=18).contains(&number));
+                assert_eq!(step > 0, matches!(number, 15..=18 | 27));
                 checks[usize::from(number)] += 1;
             }
         }
@@ -68,11 +75,58 @@ fn random_cases_reach_everything() {
     }
     println!("check, accepted then by number: {checks:?}");
     println!("build, plan, by number, blocked: {builds:?}");
-    assert_eq!(checks[10], 0);
     for (number, &count) in checks.iter().enumerate() {
-        assert!(number == 10 || count >= 50, "check {number}: {count}");
+        let possible = !matches!(number, 10 | 20..=26);
+        assert!(if possible { count >= 50 } else { count == 0 }, "check {number}: {count}");
     }
     assert!(builds.iter().all(|&count| count >= 50), "{builds:?}");
+}
+
+/// Plans of either version come to every outcome that they can have, and only version 2 to 27.
+#[test]
+fn random_plans_of_either_version_reach_everything() {
+    let mut seen = [[0; 28]; 2];
+    for Case { cluster, plan, .. } in cases(23, 20_000) {
+        let Some(version) = plan.first().and_then(|&byte| Version::of(byte)) else { continue };
+        let number = match check(&cluster, &plan) {
+            Verdict::Accepted { .. } => 0,
+            Verdict::Refused { number, .. } => usize::from(number),
+        };
+        seen[version as usize - 1][number] += 1;
+    }
+    println!("version 1, accepted then by number: {:?}", seen[0]);
+    println!("version 2, accepted then by number: {:?}", seen[1]);
+    for number in (0..=9).chain(13..=19) {
+        assert!(seen[0][number] >= 20 && seen[1][number] >= 20, "{number}: {seen:?}");
+    }
+    assert!(seen[0][27] == 0 && seen[1][27] > 500, "{seen:?}");
+}
+
+/// What plans of each origin come to on whole clusters: accepted, 15, 27, anything else.
+#[test]
+fn random_plans_of_every_origin() {
+    let mut seen = [[[0; 4]; 2]; Origin::ALL.len()];
+    for Case { cluster, plan, origin, .. } in cases(24, 30_000) {
+        let Ok(Plan { version, steps }) = parse_plan(&plan) else { continue };
+        let (Some(origin), true) = (origin, accepted_cluster(&cluster).is_ok()) else { continue };
+        let outcome = match check(&cluster, &plan) {
+            Verdict::Accepted { .. } => 0,
+            Verdict::Refused { number: 15, .. } => 1,
+            Verdict::Refused { number: 27, .. } => 2,
+            Verdict::Refused { .. } => 3,
+        };
+        seen[origin as usize][version as usize - 1][outcome] += usize::from(!steps.is_empty());
+    }
+    for origin in Origin::ALL {
+        println!("{origin:?}, by version: accepted, 15, 27, other: {:?}", seen[origin as usize]);
+    }
+    let [planner, spoilt, stale, one_wrong, turned, other] = seen;
+    for outcomes in [planner, spoilt, other].as_flattened() {
+        assert!(outcomes[0] > 50 && outcomes[3] > 50, "{seen:?}");
+    }
+    assert!(one_wrong[1][2] > 500 && other[1][2] > 50 && stale[1][2] > 10, "{seen:?}");
+    assert!(turned[1][1] > 200, "{seen:?}");
+    assert_eq!(one_wrong[1][0] + turned[1][0], 0, "{seen:?}");
 }
 
 /// Every length from 0 to 6 bytes comes up, beside clusters that are taken and that are not.
@@ -116,8 +170,8 @@ fn records_survive_writing_and_reading() {
         if let Ok(room) = parse_cluster(&cluster) {
             assert_eq!(cluster_bytes(&room), cluster);
         }
-        if let (Ok(steps), false) = (parse_plan(&plan), plan.is_empty()) {
-            assert_eq!(plan_bytes(&steps), plan);
+        if let (Ok(read), false) = (parse_plan(&plan), plan.is_empty()) {
+            assert_eq!(plan_bytes(&read), plan);
         }
     }
 }

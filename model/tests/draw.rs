@@ -3,7 +3,7 @@
 //! is marked, and whose verdict it is is said.
 
 use kobdrieft_model::draw::{page, Whose};
-use kobdrieft_model::edges::{cluster_a, node, steps, vm};
+use kobdrieft_model::edges::{cluster_a, node, sourced, steps, vm};
 use kobdrieft_model::gen::{apart, knot, plan, room, swaps, Rng, Size};
 use kobdrieft_model::orders::{Phase, Run};
 use kobdrieft_model::planner::make_steps;
@@ -126,7 +126,7 @@ fn tidy(picture: &str) {
 }
 
 /// The VMs that texts of this class name, and the line behind each.
-fn named(frame: &str, class: &str) -> Vec<(usize, String)> {
+fn labels(frame: &str, class: &str) -> Vec<(usize, String)> {
     let texts = texts(frame);
     let mut found = Vec::new();
     for (i, text) in texts.iter().enumerate().filter(|(_, text)| text.class == class) {
@@ -144,7 +144,7 @@ fn named(frame: &str, class: &str) -> Vec<(usize, String)> {
 }
 
 fn vms_named(frame: &str, class: &str) -> BTreeSet<usize> {
-    named(frame, class).into_iter().map(|(vm, _)| vm).collect()
+    labels(frame, class).into_iter().map(|(vm, _)| vm).collect()
 }
 
 /// How often each VM has a block that names it alone.
@@ -169,7 +169,7 @@ fn still(room: &Room, here: &Placement, frame: &str) {
     let astray = here.out_of_place(room);
     let home: BTreeSet<usize> = (0..room.vms.len()).filter(|vm| !astray.contains(vm)).collect();
     assert_eq!(vms_named(frame, "vm home"), home);
-    let named = named(frame, "vm astray");
+    let named = labels(frame, "vm astray");
     assert_eq!(
         named.iter().map(|(vm, _)| *vm).collect::<BTreeSet<_>>(),
         astray.into_iter().collect()
@@ -185,7 +185,7 @@ fn moving(room: &Room, step: &Step, brief: bool, frame: &str) {
     let moves: BTreeSet<usize> = step.iter().map(|m| m.vm).collect();
     for class in ["vm leaves", "vm arrives"] {
         assert_eq!(vms_named(frame, class), moves);
-        for (vm, words) in named(frame, class) {
+        for (vm, words) in labels(frame, class) {
             let m = step.iter().find(|m| m.vm == vm).unwrap();
             assert_eq!(words.contains("pivot"), room.vms[vm].target != m.to, "{vm}: {words}");
         }
@@ -198,11 +198,18 @@ fn moving(room: &Room, step: &Step, brief: bool, frame: &str) {
     }
 }
 
-/// Draws a plan that can be drawn and looks at every frame.
+/// Draws steps that can be drawn, with and without sources, which look the same.
 fn drawn(room: &Room, steps: &[Step]) -> String {
-    let page = page(room, steps, Whose::Model).expect("a plan that fits");
+    let page = plan_drawn(room, &bare(steps));
+    assert_eq!(plan_drawn(room, &named(room, steps)), page);
+    page
+}
+
+/// Draws a plan that can be drawn and looks at every frame.
+fn plan_drawn(room: &Room, plan: &Plan) -> String {
+    let page = page(room, plan, Whose::Model).expect("a plan that fits");
     well_formed(&page);
-    let at = refused_at(room, steps);
+    let (steps, at) = (&plan.steps, refused_at(room, plan));
     let shown = at.unwrap_or(steps.len());
     let brief = page.contains("shows the nodes that the step touches");
     let frames = frames(&page);
@@ -221,8 +228,8 @@ fn drawn(room: &Room, steps: &[Step]) -> String {
 }
 
 /// The step at which a plan is refused, if it is at one.
-fn refused_at(room: &Room, steps: &[Step]) -> Option<usize> {
-    match check(&cluster_bytes(room), &plan_bytes(steps)) {
+fn refused_at(room: &Room, plan: &Plan) -> Option<usize> {
+    match check(&cluster_bytes(room), &plan_bytes(plan)) {
         Verdict::Refused { step, .. } if step > 0 => Some(usize::from(step)),
         _ => None,
     }
@@ -291,10 +298,10 @@ fn rooms_of_all_sizes() {
 fn large_pages_stay_light() {
     let room = crowd(64, 256, 7);
     let to = |i: usize, vm: usize| (room.vms[vm].current + 1 + (i / 128) % 2) % 64;
-    let step = |i| [i % 128, 128 + i % 128].map(|vm| Move { vm, to: to(i, vm) }).to_vec();
+    let step = |i| [i % 128, 128 + i % 128].map(|vm| Move::bare(vm, to(i, vm))).to_vec();
     let steps: Vec<Step> = (0..512).map(step).collect();
     assert!(matches!(
-        check(&cluster_bytes(&room), &plan_bytes(&steps)),
+        check(&cluster_bytes(&room), &plan_bytes(&bare(&steps))),
         Verdict::Refused { number: 19, .. }
     ));
     let (page, pairs) = (drawn(&room, &steps), swaps(128));
@@ -359,6 +366,69 @@ fn mates_meet() {
 }
 
 #[test]
+fn sources_that_are_wrong() {
+    let page = plan_drawn(&cluster_a(), &sourced(&[&[(0, 0, 2)], &[(1, 1, 0)], &[(0, 0, 1)]]));
+    has(
+        &page,
+        &[
+            "<h1>3 steps, 3 moves, refused</h1>",
+            &format!("<b>refused 27 step 3</b>. {}</p>", reason(27)),
+            "<figure class=\"refused\">\n<figcaption><h2>Step 3 of 3, refused</h2>\n\
+             <p>VM 0 from node 2 to 1.</p>\n<p>Refused with number 27.</p>\n\
+             <p>The move of VM 0 to node 1 names node 0 as its source, but VM 0 is on node 2 when \
+             the step starts.</p>",
+            "Broken red lines are around what refuses a step.",
+            ">not here</text>",
+        ],
+    );
+    assert_eq!(page.matches("<figure").count(), 4);
+    let refused = frames(&page)[3];
+    assert_eq!(refused.matches("class=\"blamed\"").count(), 1, "the node that is named");
+    assert_eq!(refused.matches("class=\"blamed-vm\"").count(), 1, "the VM where it is");
+    assert_eq!(page.matches("class=\"blamed").count(), 2);
+    let rects = rects(refused);
+    let blamed = |class: &str| rects.iter().find(|rect| rect.class == class).unwrap();
+    let column = |x: f64| (x / 150.0) as usize;
+    assert_eq!(column(blamed("blamed").left), 0);
+    assert_eq!(column(blamed("blamed-vm").left), 2);
+
+    let behind = plan_drawn(&cluster_a(), &sourced(&[&[(0, 2, 2)], &[(9, 9, 9)]]));
+    has(
+        &behind,
+        &["names node 2 as its source, but VM 0 is on node 0 when the step starts.</p>\n\
+             <p>The step behind it is not drawn.</p>"],
+    );
+    let nowhere = plan_drawn(&cluster_a(), &sourced(&[&[(0, 0, 2), (1, 255, 0)]]));
+    has(
+        &nowhere,
+        &["<p>The move of VM 1 to node 0 names node 255 as its source, but VM 1 is on node 1 \
+             when the step starts; node 255 is not there (this cluster has nodes 0 to 2).</p>"],
+    );
+    assert_eq!(nowhere.matches("class=\"blamed\"").count(), 0);
+    assert_eq!(nowhere.matches("class=\"blamed-vm\"").count(), 1);
+}
+
+/// In a frame that shows only the nodes its step touches, the node that is named is there too; and
+/// more than three wrong sources are counted.
+#[test]
+fn sources_that_are_wrong_in_a_large_room() {
+    let mut room = crowd(40, 200, 40);
+    room.vms[0].current = 0;
+    let brief = plan_drawn(&room, &sourced(&[&[(0, 30, 39)]]));
+    has(&brief, &["A step's frame shows the nodes that", "names node 30 as its source, but VM 0"]);
+    for node in [0, 30, 39] {
+        assert!(frames(&brief)[1].contains(&format!(">node {node}</text>")), "{node}");
+    }
+    assert_eq!(frames(&brief)[1].matches("class=\"name\"").count(), 3);
+    let away = |vm: usize| (vm, 99, (room.vms[vm].current + 1) % 40);
+    let many: Vec<(usize, usize, usize)> = (0..5).map(away).collect();
+    let page = plan_drawn(&room, &sourced(&[&many]));
+    assert_eq!(page.matches("names node 99 as its source").count(), 3);
+    has(&page, &["<p>And 2 more like this.</p>"]);
+    assert_eq!(page.matches("class=\"blamed\"").count(), 0);
+}
+
+#[test]
 fn off_target() {
     let a = cluster_a();
     let nothing = drawn(&a, &[]);
@@ -379,7 +449,7 @@ fn off_target() {
 fn nothing_to_move() {
     let mut home = cluster_a();
     home.vms.iter_mut().for_each(|vm| vm.current = vm.target);
-    let no_bytes = drawn(&home, &parse_plan(&[]).unwrap());
+    let no_bytes = plan_drawn(&home, &parse_plan(&[]).unwrap());
     has(
         &no_bytes,
         &[
@@ -390,7 +460,9 @@ fn nothing_to_move() {
             "<h2>End</h2>\n<p>Every VM is on its target.</p>",
         ],
     );
-    assert_eq!(no_bytes, drawn(&home, &parse_plan(&plan_bytes(&[])).unwrap()));
+    for version in Version::ALL {
+        assert_eq!(no_bytes, plan_drawn(&home, &Plan::empty(version)));
+    }
 }
 
 #[test]
@@ -398,7 +470,7 @@ fn a_target_that_is_refused() {
     let mut a = cluster_a();
     a.vms[0].target = 0;
     let why = format!("<b>refused 8 step 0</b>. {} The steps are drawn", reason(8));
-    for steps in [steps(&[&[(1, 0)]]), parse_plan(&[]).unwrap()] {
+    for steps in [steps(&[&[(1, 0)]]), vec![]] {
         let page = drawn(&a, &steps);
         has(&page, &[&why]);
         assert!(!page.contains("<figure class=\"refused\">"));
@@ -408,7 +480,7 @@ fn a_target_that_is_refused() {
 #[test]
 fn whose_verdict() {
     let a = cluster_a();
-    let page = page(&a, &make_steps(&a).0, Whose::Checker).unwrap();
+    let page = page(&a, &named(&a, &make_steps(&a).0), Whose::Checker).unwrap();
     has(
         &page,
         &["<p class=\"verdict\">Verdict of the proved checker: <b>accepted cost 16</b>.</p>"],
@@ -426,17 +498,44 @@ fn plans_for_another_cluster() {
     ];
     for (step, why) in table {
         let start = "this plan is not one for this cluster: in step 2, ";
-        let outcome = page(&cluster_a(), &steps(&[&[(0, 2)], step]), Whose::Model);
-        assert_eq!(outcome, Err(format!("{start}{why}")));
+        let list = steps(&[&[(0, 2)], step]);
+        for plan in [bare(&list), named(&cluster_a(), &list)] {
+            let outcome = page(&cluster_a(), &plan, Whose::Model);
+            assert_eq!(outcome, Err(format!("{start}{why}")));
+        }
     }
 }
 
-/// Follows every order that a page tells of a refused step; gives how many there are.
-fn told_orders(room: &Room, steps: &[Step], page: &str) -> usize {
-    let Some(at) = refused_at(room, steps) else { return 0 };
+/// Where the VMs are when this step starts, counted from 1.
+fn start_of(room: &Room, steps: &[Step], step: usize) -> Placement {
     let before = |here: Placement, step: &Step| here.after(room, step);
-    let start = steps[..at - 1].iter().fold(Placement::current(room), before);
-    let step = &steps[at - 1];
+    steps[..step - 1].iter().fold(Placement::current(room), before)
+}
+
+/// Holds the wrong sources of a step refused with 27 against what its page tells and marks.
+fn told_sources(room: &Room, plan: &Plan, step: usize, page: &str) {
+    let start = start_of(room, &plan.steps, step);
+    let wrong: Vec<&Move> =
+        plan.steps[step - 1].iter().filter(|m| m.from != Some(start.place[m.vm])).collect();
+    assert!(!wrong.is_empty());
+    for Move { vm, from, to } in wrong.iter().take(3) {
+        let (from, place) = (from.unwrap(), start.place[*vm]);
+        let told = format!(
+            "The move of VM {vm} to node {to} names node {from} as its source, but VM {vm} is on \
+             node {place} when the step starts"
+        );
+        has(page, &[&told]);
+    }
+    let there = |m: &&&Move| m.from.unwrap() < room.nodes.len();
+    let nodes: BTreeSet<usize> = wrong.iter().filter(there).map(|m| m.from.unwrap()).collect();
+    assert_eq!(page.matches("class=\"blamed\"").count(), nodes.len());
+    assert!(page.matches("class=\"blamed-vm\"").count() >= wrong.len());
+}
+
+/// Follows every order that a page tells of a refused step; gives how many there are.
+fn told_orders(room: &Room, plan: &Plan, page: &str) -> usize {
+    let Some(at) = refused_at(room, plan) else { return 0 };
+    let (start, step) = (start_of(room, &plan.steps, at), &plan.steps[at - 1]);
     let run = Run { room, start: &start.place, step };
     let mut told = 0;
     for order in parts(page, "An order that fails: begin VM ", ": node ") {
@@ -458,24 +557,31 @@ fn told_orders(room: &Room, steps: &[Step], page: &str) -> usize {
 #[test]
 fn generated_plans() {
     let mut rng = Rng::new(41);
-    let (mut pages, mut refusals, mut orders) = (0, 0, 0);
+    let (mut pages, mut refusals, mut orders, mut sources) = (0, 0, 0, 0);
     let sizes = [(Size::Tiny, 400), (Size::Small, 400), (Size::Medium, 40), (Size::Large, 4)];
     for (size, how_many) in sizes {
         for _ in 0..how_many {
             for make in [room, knot, apart] {
                 let room = make(&mut rng, size);
-                let steps: Vec<Step> = plan(&mut rng, &room).into_iter().take(40).collect();
-                let verdict = check(&cluster_bytes(&room), &plan_bytes(&steps));
+                let (mut plan, _) = plan(&mut rng, &room);
+                plan.steps.truncate(40);
+                let verdict = check(&cluster_bytes(&room), &plan_bytes(&plan));
                 if matches!(verdict, Verdict::Refused { number: 15, .. }) {
-                    assert!(page(&room, &steps, Whose::Model).is_err());
+                    assert!(page(&room, &plan, Whose::Model).is_err());
                     refusals += 1;
+                    continue;
+                }
+                let page = plan_drawn(&room, &plan);
+                pages += 1;
+                if let Verdict::Refused { number: 27, step } = verdict {
+                    told_sources(&room, &plan, usize::from(step), &page);
+                    sources += 1;
                 } else {
-                    orders += told_orders(&room, &steps, &drawn(&room, &steps));
-                    pages += 1;
+                    orders += told_orders(&room, &plan, &page);
                 }
             }
         }
     }
-    println!("{pages} pages, {refusals} refused, {orders} orders that fail");
-    assert!(pages > 500 && refusals > 50 && orders > 50);
+    println!("{pages} pages, {refusals} refused, {orders} orders that fail, {sources} with 27");
+    assert!(pages > 500 && refusals > 50 && orders > 50 && sources > 50);
 }

@@ -1,5 +1,5 @@
-//! A plan of no bytes and the header of a plan of no steps: one verdict for both on every cluster,
-//! whole or damaged.
+//! A plan of no bytes and the header of a plan of no steps in either version: one verdict for all
+//! three on every cluster, whole or damaged.
 
 use kobdrieft_model::edges::{cluster_a, edges, node, room as made, steps, vm};
 use kobdrieft_model::gen::{apart, cases, knot, ring, room, swaps, Case, Rng, Size};
@@ -8,16 +8,18 @@ use kobdrieft_model::puzzles::puzzle;
 use kobdrieft_model::rules::accepted_cluster;
 use kobdrieft_model::*;
 
-const HEADER: [u8; 7] = [1, 0, 0, 0, 7, 0, 0];
+const HEADERS: [[u8; 7]; 2] = [[1, 0, 0, 0, 7, 0, 0], [2, 0, 0, 0, 7, 0, 0]];
 
-/// How often the pair came out accepted, then by number.
+/// How often the three came out accepted, then by number.
 type Seen = [usize; 20];
 
-/// The one verdict on both plans. What it must be is worked out here from the cluster alone: its
-/// own refusal, then 19 if some VM is not on its target, else accepted at cost 0.
-fn both(seen: &mut Seen, cluster: &[u8]) {
+/// The one verdict on all three plans. What it must be is worked out here from the cluster alone:
+/// its own refusal, then 19 if some VM is not on its target, else accepted at cost 0.
+fn all_three(seen: &mut Seen, cluster: &[u8]) {
     let verdict = check(cluster, &[]);
-    assert_eq!(verdict, check(cluster, &HEADER), "{cluster:02x?}");
+    for header in HEADERS {
+        assert_eq!(verdict, check(cluster, &header), "{cluster:02x?}");
+    }
     let number = match accepted_cluster(cluster) {
         Err(number) => number,
         Ok(room) if room.vms.iter().any(|vm| vm.current != vm.target) => 19,
@@ -44,7 +46,7 @@ fn reached(seen: &Seen, least: usize) {
 fn generated_clusters_whole_and_damaged() {
     let mut seen = [0; 20];
     for Case { cluster, .. } in cases(61, 60_000) {
-        both(&mut seen, &cluster);
+        all_three(&mut seen, &cluster);
     }
     reached(&seen, 200);
 }
@@ -52,7 +54,7 @@ fn generated_clusters_whole_and_damaged() {
 #[test]
 fn hand_set_clusters() {
     let mut seen = [0; 20];
-    edges().iter().for_each(|edge| both(&mut seen, &edge.cluster));
+    edges().iter().for_each(|edge| all_three(&mut seen, &edge.cluster));
     reached(&seen, 5);
 }
 
@@ -64,15 +66,15 @@ fn whole_clusters_of_all_sizes() {
     for (size, how_many) in sizes {
         for make in [room, knot, apart] {
             for _ in 0..how_many {
-                both(&mut seen, &cluster_bytes(&make(&mut rng, size)));
+                all_three(&mut seen, &cluster_bytes(&make(&mut rng, size)));
             }
         }
     }
     for _ in 0..5_000 {
-        both(&mut seen, &cluster_bytes(&puzzle(&mut rng)));
+        all_three(&mut seen, &cluster_bytes(&puzzle(&mut rng)));
     }
-    both(&mut seen, &cluster_bytes(&ring(&mut rng, 64)));
-    both(&mut seen, &cluster_bytes(&swaps(128)));
+    all_three(&mut seen, &cluster_bytes(&ring(&mut rng, 64)));
+    all_three(&mut seen, &cluster_bytes(&swaps(128)));
     println!("accepted {}, refused with 19 {}", seen[0], seen[19]);
     assert!(seen[0] > 500 && seen[19] > 5_000);
     assert_eq!(seen[0] + seen[19], seen.iter().sum());
@@ -98,25 +100,25 @@ fn every_damage_of_one_byte() {
     let mut seen = [0; 20];
     for room in [cluster_a(), with_every_kind([0, 1]), with_every_kind([2, 1])] {
         let good = cluster_bytes(&room);
-        both(&mut seen, &good);
+        all_three(&mut seen, &good);
         for length in 0..good.len() {
             let mut front = good[..length].to_vec();
-            both(&mut seen, &front);
+            all_three(&mut seen, &front);
             if length >= 5 {
                 records::state_length(&mut front);
-                both(&mut seen, &front);
+                all_three(&mut seen, &front);
             }
             for value in 0..=255 {
                 let mut changed = good.clone();
                 changed[length] = value;
-                both(&mut seen, &changed);
+                all_three(&mut seen, &changed);
             }
         }
         for value in 0..=255 {
             let mut longer = [&good[..], &[value]].concat();
-            both(&mut seen, &longer);
+            all_three(&mut seen, &longer);
             records::state_length(&mut longer);
-            both(&mut seen, &longer);
+            all_three(&mut seen, &longer);
         }
     }
     reached(&seen, 10);
@@ -135,20 +137,27 @@ fn a_without_bytes() {
 
 #[test]
 fn what_plan_bytes_are_read_as() {
-    assert_eq!(parse_plan(&[]), Ok(vec![]));
-    assert_eq!(parse_plan(&HEADER), Ok(vec![]));
-    assert_eq!(plan_bytes(&[]), HEADER);
-    let plan = plan_bytes(&steps(&[&[(0, 2)], &[(0, 0)]]));
-    for length in 1..7 {
-        for bytes in [&[0; 6], &[255; 6], &HEADER[..6], &plan[..6]] {
-            assert_eq!(parse_plan(&bytes[..length]), Err(11));
+    assert_eq!(parse_plan(&[]), Ok(Plan::empty(Version::One)));
+    for (version, header) in Version::ALL.into_iter().zip(HEADERS) {
+        assert_eq!(parse_plan(&header), Ok(Plan::empty(version)));
+        assert_eq!(plan_bytes(&Plan::empty(version)), header);
+    }
+    let list = steps(&[&[(0, 2)], &[(0, 0)]]);
+    for plan in [bare(&list), named(&cluster_a(), &list)] {
+        let header = plan_bytes(&Plan::empty(plan.version));
+        let plan = plan_bytes(&plan);
+        for length in 1..7 {
+            for bytes in [&[0; 6], &[255; 6], &header[..6], &plan[..6]] {
+                assert_eq!(parse_plan(&bytes[..length]), Err(11));
+            }
         }
+        assert_eq!(parse_plan(&plan[..7]), Err(13));
     }
     assert_eq!(parse_plan(&[0; 7]), Err(12));
-    assert_eq!(parse_plan(&plan[..7]), Err(13));
+    assert_eq!(parse_plan(&[3, 0, 0, 0, 7, 0, 0]), Err(12));
 }
 
-/// Where a plan has no steps, blocked or not, the record written is the header, and no less.
+/// Where a plan has no steps, blocked or not, the record written is the header of version 2.
 #[test]
 fn the_planner_writes_its_header() {
     let mut rng = Rng::new(63);
@@ -170,7 +179,7 @@ fn the_planner_writes_its_header() {
             }
             _ => continue,
         }
-        assert_eq!(out[..7], HEADER);
+        assert_eq!(out[..7], HEADERS[1]);
         assert!(out[7..].iter().all(|&b| b == 0xAA));
     }
     println!("{plans} plans of no steps, {blocked} blocked before the first");

@@ -3,7 +3,7 @@
 
 use kobdrieft_model::draw::{page, Whose};
 use kobdrieft_model::form::{read_cluster, read_plan};
-use kobdrieft_model::text::{plan_text, verdict_text};
+use kobdrieft_model::text::{plan_text, planned, verdict_text};
 use kobdrieft_model::*;
 use std::collections::BTreeSet;
 use std::fs;
@@ -60,9 +60,59 @@ fn records_are_what_the_texts_give() {
         assert_eq!(cluster_bytes(&room), bytes(&format!("{name}.cluster")), "{name}");
     }
     for name in names("steps") {
-        let steps = read_plan(&bytes(&format!("{name}.steps"))).expect(&name);
-        assert_eq!(plan_bytes(&steps), bytes(&format!("{name}.plan")), "{name}");
+        let plan = read_plan(&bytes(&format!("{name}.steps"))).expect(&name);
+        assert_eq!(plan_bytes(&plan), bytes(&format!("{name}.plan")), "{name}");
     }
+}
+
+/// Hand-made plans of document 01 are of version 1; those that show sources are of version 2.
+#[test]
+fn versions_of_the_plans() {
+    let sources = ["a-sources", "a-wrong-source", "a-swapped", "a-same", "a-stays-named"];
+    let two: BTreeSet<String> =
+        sources.into_iter().chain(["a-nothing-2"]).map(String::from).collect();
+    for name in names("steps") {
+        let plan = parse_plan(&bytes(&format!("{name}.plan"))).unwrap();
+        let expected = if two.contains(&name) { Version::Two } else { Version::One };
+        assert_eq!(plan.version, expected, "{name}");
+    }
+    assert!(two.is_subset(&names("steps")));
+    for name in ["a-sources", "a-wrong-source", "a-same", "a-stays-named", "a-nothing-2"] {
+        assert_eq!(bytes(&format!("{name}.cluster")), bytes("a.cluster"), "{name}");
+    }
+}
+
+/// What the examples with sources come to without them: the wrong ones are told by their sources
+/// alone.
+#[test]
+fn the_same_plans_without_sources() {
+    let table = [
+        ("a-sources", "accepted cost 16\n"),
+        ("a-wrong-source", "accepted cost 16\n"),
+        ("a-swapped", "accepted cost 5\n"),
+        ("a-same", "refused 19 step 0\n"),
+        ("a-stays-named", "refused 15 step 1\n"),
+    ];
+    for (name, line) in table {
+        let plan = parse_plan(&bytes(&format!("{name}.plan"))).unwrap();
+        let without = plan_bytes(&bare(&plan.steps));
+        let verdict = check(&bytes(&format!("{name}.cluster")), &without);
+        assert_eq!(verdict_text(verdict), line, "{name}");
+    }
+}
+
+/// The planner's record for A, and `a-swapped` as the planner's record for the cluster that it
+/// was made for: the same, with VM 0 on node 2.
+#[test]
+fn the_planner_wrote_the_plans_with_sources() {
+    assert_eq!(planned(&bytes("a.cluster")).1, Some(bytes("a-sources.plan")));
+    let cluster = bytes("a-swapped.cluster");
+    assert_eq!(cluster, bytes("five.cluster"));
+    let mut other = parse_cluster(&cluster).unwrap();
+    other.vms[0].current = 2;
+    assert_eq!(planned(&cluster_bytes(&other)).1, Some(bytes("a-swapped.plan")));
+    let own = planned(&cluster).1.unwrap();
+    assert_eq!(bare(&parse_plan(&own).unwrap().steps), parse_plan(&bytes("five.plan")).unwrap());
 }
 
 #[test]
@@ -99,12 +149,12 @@ fn every_plan_that_fits_is_drawn() {
     for name in names("plan") {
         let room = parse_cluster(&bytes(&format!("{name}.cluster"))).unwrap();
         let verdict = text(&format!("{name}.verdict"));
-        let Ok(steps) = parse_plan(&bytes(&format!("{name}.plan"))) else {
+        let Ok(plan) = parse_plan(&bytes(&format!("{name}.plan"))) else {
             assert_eq!(verdict, "refused 11 step 0\n", "{name}");
             continue;
         };
         let other = verdict.starts_with("refused 15 ");
-        assert_eq!(page(&room, &steps, Whose::Model).is_err(), other, "{name}");
+        assert_eq!(page(&room, &plan, Whose::Model).is_err(), other, "{name}");
     }
 }
 

@@ -2,14 +2,14 @@
 //! come back as the header of a plan of no steps), and what is not understood is refused at its
 //! line.
 
-use kobdrieft_model::edges::{cluster_a, edges, node, room as made, vm};
+use kobdrieft_model::edges::{cluster_a, edges, node, room as made, sourced, steps, vm};
 use kobdrieft_model::form::{read_cluster, read_plan, write_cluster, write_plan, Fault};
-use kobdrieft_model::gen::{apart, cases, knot, ring, room, swaps, Rng, Size};
+use kobdrieft_model::gen::{apart, cases, knot, plan, ring, room, swaps, Rng, Size};
 use kobdrieft_model::puzzles::puzzle;
 use kobdrieft_model::*;
 
-/// The record of a plan of no steps.
-const HEADER: &[u8] = &[1, 0, 0, 0, 7, 0, 0];
+/// The records of a plan of no steps in each version.
+const HEADERS: [&[u8]; 2] = [&[1, 0, 0, 0, 7, 0, 0], &[2, 0, 0, 0, 7, 0, 0]];
 
 /// Record to text to record, and text to record to text.
 fn there_and_back(record: &[u8]) -> bool {
@@ -22,12 +22,14 @@ fn there_and_back(record: &[u8]) -> bool {
 }
 
 fn plan_there_and_back(record: &[u8]) -> bool {
-    let Ok(steps) = parse_plan(record) else { return false };
-    let text = write_plan(&steps);
+    let Ok(plan) = parse_plan(record) else { return false };
+    let text = write_plan(&plan);
     let again = read_plan(text.as_bytes()).unwrap_or_else(|f| panic!("{f:?} in\n{text}"));
-    let written = if record.is_empty() { HEADER } else { record };
+    let written = if record.is_empty() { HEADERS[0] } else { record };
     assert_eq!(plan_bytes(&again), written, "{text}");
     assert_eq!(write_plan(&again), text);
+    let said = format!("version {}\n{}", plan.version as u8, text.replace("version 2\n", ""));
+    assert_eq!(read_plan(said.as_bytes()), Ok(plan), "{said}");
     true
 }
 
@@ -64,6 +66,24 @@ fn generated_and_hand_set_records_with_damage() {
 }
 
 #[test]
+fn generated_plans_of_either_version() {
+    let mut rng = Rng::new(33);
+    let mut seen = [[0; 2]; 2];
+    for i in 0..8_000 {
+        let make = [room, knot, apart][i % 3];
+        let room = make(&mut rng, if i % 50 == 0 { Size::Medium } else { Size::Tiny });
+        let (plan, _) = plan(&mut rng, &room);
+        let moves: usize = plan.steps.iter().map(Vec::len).sum();
+        if plan.steps.len() <= 512 && moves <= 1_024 {
+            assert!(plan_there_and_back(&plan_bytes(&plan)));
+            seen[plan.version as usize - 1][usize::from(moves > 0)] += 1;
+        }
+    }
+    println!("without and with moves, by version: {seen:?}");
+    assert!(seen.as_flattened().iter().all(|&count| count > 100), "{seen:?}");
+}
+
+#[test]
 fn largest_records() {
     assert!(there_and_back(&cluster_bytes(&swaps(128))));
     assert!(there_and_back(&cluster_bytes(&ring(&mut Rng::new(1), 64))));
@@ -72,20 +92,53 @@ fn largest_records() {
     let widest = Constraint::Latency { vms: all_vms, groups };
     let full = made(&vec![node(0, 0); 64], &vec![vm(1, 0, 63, 0); 256], &vec![widest; 128]);
     assert!(there_and_back(&cluster_bytes(&full)));
-    let steps = vec![vec![Move { vm: 255, to: 255 }; 2]; 512];
-    assert!(plan_there_and_back(&plan_bytes(&steps)));
-    let steps = vec![vec![Move { vm: 0, to: 63 }; 256]; 4];
-    assert!(plan_there_and_back(&plan_bytes(&steps)));
+    let thin = vec![vec![Move::bare(255, 255); 2]; 512];
+    let wide = vec![vec![Move::bare(0, 63); 256]; 4];
+    let lengths = [thin, wide].map(|steps| {
+        [bare(&steps), named(&full, &steps)].map(|plan| {
+            let record = plan_bytes(&plan);
+            assert!(plan_there_and_back(&record));
+            record.len()
+        })
+    });
+    assert_eq!(lengths, [[3_079, 4_103], [2_063, 3_087]]);
 }
 
 #[test]
 fn plans_of_no_steps() {
-    assert!(plan_there_and_back(&[]) && plan_there_and_back(HEADER));
-    assert_eq!(parse_plan(&[]), parse_plan(HEADER));
-    assert_eq!(write_plan(&parse_plan(&[]).unwrap()), "# no steps\n");
-    for length in 1..HEADER.len() {
-        assert!(!plan_there_and_back(&HEADER[..length]));
+    assert!(plan_there_and_back(&[]));
+    assert_eq!(parse_plan(&[]), parse_plan(HEADERS[0]));
+    let texts = ["# no steps\n", "version 2\n# no steps\n"];
+    for (header, text) in HEADERS.into_iter().zip(texts) {
+        assert!(plan_there_and_back(header));
+        assert_eq!(write_plan(&parse_plan(header).unwrap()), text);
+        for length in 1..header.len() {
+            assert!(!plan_there_and_back(&header[..length]));
+        }
     }
+    for text in ["", "# nothing\n", "version 1", "# a\n\n version 01 # b"] {
+        assert_eq!(read_plan(text.as_bytes()), Ok(Plan::empty(Version::One)), "{text}");
+    }
+    for text in ["version 2", "\nversion 2\n# nothing\n"] {
+        assert_eq!(read_plan(text.as_bytes()), Ok(Plan::empty(Version::Two)), "{text}");
+    }
+}
+
+#[test]
+fn steps_in_either_version() {
+    let list = steps(&[&[(0, 2)], &[(1, 0)], &[(0, 1)]]);
+    let texts = [
+        "step 0 to 2\nstep 1 to 0\nstep 0 to 1\n",
+        "step 0 from 0 to 2\nstep 1 from 1 to 0\nstep 0 from 2 to 1\n",
+    ];
+    for (plan, text) in [bare(&list), named(&cluster_a(), &list)].into_iter().zip(texts) {
+        assert_eq!(write_plan(&plan), text);
+        assert_eq!(read_plan(text.as_bytes()), Ok(plan.clone()));
+        let said = format!("# said\n version {} # so\n\n{text}", plan.version as u8);
+        assert_eq!(read_plan(said.as_bytes()), Ok(plan));
+    }
+    let wrong = b"step 0 from 255 to 255, 0 from 9 to 9";
+    assert_eq!(read_plan(wrong), Ok(sourced(&[&[(0, 255, 255), (0, 9, 9)]])));
 }
 
 #[test]
@@ -118,10 +171,11 @@ fn what_people_write() {
     let nodes = vec![0, 2, 3, 4, 6, 8];
     let ban = Constraint::Ban { vms: vec![], nodes };
     assert_eq!(read_cluster(runs).unwrap().constraints, [ban]);
-    let both = vec![vec![Move { vm: 0, to: 1 }, Move { vm: 1, to: 0 }]];
+    let both = bare(&steps(&[&[(0, 1), (1, 0)]]));
     assert_eq!(read_plan(b"step 0 to 1, 1 to 0 # both"), Ok(both.clone()));
     assert_eq!(read_plan(b"\nstep 0 to 1,1 to 0\n"), Ok(both));
-    assert_eq!(read_plan(b"# nothing\n"), Ok(vec![]));
+    let both = sourced(&[&[(0, 0, 1), (1, 1, 0)]]);
+    assert_eq!(read_plan(b"\n\tstep 0  from 0 to 1,1 from 01 to 0#both\r\n"), Ok(both));
 }
 
 #[test]
@@ -153,6 +207,7 @@ fn lines_that_are_refused() {
             "no line begins with 'nod', only with node, vm, ban, fence, spread or latency",
         ),
         ("step 0 to 1", "'step' belongs in a plan's text; this is read as a cluster"),
+        ("version 2", "'version' belongs in a plan's text; this is read as a cluster"),
         ("node", "the line ends where the node's memory should stand"),
         ("node 4", "the line ends where the node's CPU should stand"),
         ("node four 100", "'four' stands where the node's memory should, a number"),
@@ -234,13 +289,74 @@ fn plans_that_are_refused() {
         ("step 0 to 256", "a destination cannot be 256 (it goes from 0 to 255)"),
         ("step 0 to 1 1 to 0", "'1' stands where ',' should"),
         ("step 0 to 1,", "the line ends where a VM should stand"),
+        (
+            "step 0 from 0 to 1",
+            "VM 0 names its source, but line 1 names no source; a plan does not mix",
+        ),
+        (
+            "step 0 to 1, 7 from 0 to 1",
+            "VM 7 names its source, but line 1 names no source; a plan does not mix",
+        ),
+        ("version 1", "'version' stands behind a step; it belongs before the first"),
+        ("version 2", "'version' stands behind a step; it belongs before the first"),
     ];
     for (line, reason) in table {
         refused(read_plan(format!("step 0 to 1\n\n{line}\n").as_bytes()), 3, reason);
+    }
+    let table = [
+        ("step 0 from", "the line ends where a source should stand"),
+        ("step 0 from to 1", "'to' stands where a source should, a number"),
+        ("step 0 from 0", "the line ends where 'to' should stand"),
+        ("step 0 from 0 1", "'1' stands where 'to' should"),
+        ("step 0 from 256 to 0", "a source cannot be 256 (it goes from 0 to 255)"),
+        ("step 0 from 0 to 256", "a destination cannot be 256 (it goes from 0 to 255)"),
+        (
+            "step 0 to 1 from 0",
+            "VM 0 names no source, but line 1 names a source; a plan does not mix",
+        ),
+        (
+            "step 3 from 0 to 1, 4 to 1",
+            "VM 4 names no source, but line 1 names a source; a plan does not mix",
+        ),
+        ("version 2", "'version' stands behind a step; it belongs before the first"),
+    ];
+    for (line, reason) in table {
+        refused(read_plan(format!("step 0 from 0 to 1\n\n{line}\n").as_bytes()), 3, reason);
     }
     let wide = |moves: usize| format!("step {}\n", vec!["0 to 1"; moves].join(", "));
     let long = "step 0 to 1\n".repeat(513);
     refused(read_plan(long.as_bytes()), 513, "a plan has at most 512 steps");
     refused(read_plan(wide(257).as_bytes()), 1, "a step has at most 256 moves");
     refused(read_plan(wide(205).repeat(5).as_bytes()), 5, "a plan has at most 1024 moves");
+    let long = "step 0 from 0 to 1\n".repeat(513);
+    refused(read_plan(long.as_bytes()), 513, "a plan has at most 512 steps");
+    let said = format!("version 2\n{long}");
+    refused(read_plan(said.as_bytes()), 514, "a plan has at most 512 steps");
+}
+
+#[test]
+fn versions_that_are_refused() {
+    let table = [
+        ("version", 1, "the line ends where the version should stand"),
+        ("version two", 1, "'two' stands where the version should, a number"),
+        ("version 0", 1, "the version cannot be 0 (it goes from 1 to 2)"),
+        ("\nversion 3", 2, "the version cannot be 3 (it goes from 1 to 2)"),
+        ("version 257", 1, "the version cannot be 257 (it goes from 1 to 2)"),
+        ("version 1 2", 1, "'2' stands where the line should end"),
+        ("version 1\nversion 1", 2, "'version' stands here again; line 1 has it"),
+        ("version 1\n\nversion 2", 3, "'version' stands here again; line 1 has it"),
+        (
+            "# a\nversion 1\n\nstep 3 from 0 to 1",
+            2,
+            "version 1 is said, but VM 3 names its source in line 4",
+        ),
+        (
+            "version 2\nstep 0 from 0 to 1\nstep 5 to 1",
+            1,
+            "version 2 is said, but VM 5 names no source in line 3",
+        ),
+    ];
+    for (text, line, reason) in table {
+        refused(read_plan(text.as_bytes()), line, reason);
+    }
 }

@@ -31,7 +31,7 @@ fn small_step(rng: &mut Rng, start: &Placement, n: usize, v: usize) -> Step {
     rng.shuffle(&mut vms);
     vms.truncate(rng.range(1, 4));
     vms.sort();
-    vms.iter().map(|&vm| Move { vm, to: (start.place[vm] + rng.range(1, n - 1)) % n }).collect()
+    vms.iter().map(|&vm| Move::bare(vm, (start.place[vm] + rng.range(1, n - 1)) % n)).collect()
 }
 
 fn closed(room: &Room, start: &Placement, step: &[Move]) -> Found {
@@ -55,7 +55,7 @@ fn closed_forms_say_what_all_states_say() {
 #[test]
 fn a_running_vm_counts_on_both_its_nodes() {
     let room = cluster_a();
-    let step = [Move { vm: 0, to: 2 }];
+    let step = [Move::bare(0, 2)];
     let run = Run { room: &room, start: &[0, 1], step: &step };
     let loads = |phase| [0, 1, 2].map(|node| run.load(&[phase], node));
     assert_eq!(loads(Phase::Waiting), [(3, 50), (2, 50), (0, 0)]);
@@ -129,4 +129,33 @@ fn part_of_a_sound_step_is_sound() {
             assert_eq!(step_fault(&room, &book, &start, &part), None);
         }
     }
+}
+
+/// Orders go by the places: what sources the moves name, right or wrong, changes nothing, and a
+/// step without fault 15 is at fault by 27 exactly if some source is wrong.
+#[test]
+fn sources_are_no_matter_of_orders() {
+    let mut rng = Rng::new(5);
+    let (mut right, mut wrong) = (0, 0);
+    for _ in 0..10_000 {
+        let (room, start, step) = tight(&mut rng);
+        let book = Book::of(&room);
+        let place = |m: &Move| Some(start.place[m.vm]);
+        let drawn = |rng: &mut Rng, m: &Move| match rng.chance(80) {
+            true => place(m),
+            false => Some(rng.pick(&[0, 1, 2, 3, 255])),
+        };
+        let sourced: Step = step.iter().map(|m| Move { from: drawn(&mut rng, m), ..*m }).collect();
+        assert_eq!(explore(&room, &start.place, &sourced), explore(&room, &start.place, &step));
+        let fault = step_fault(&room, &book, &start, &sourced);
+        if sourced.iter().all(|m| m.from == place(m)) {
+            assert_eq!(fault, step_fault(&room, &book, &start, &step));
+            right += 1;
+        } else {
+            assert_eq!(fault, Some(27));
+            wrong += 1;
+        }
+    }
+    println!("{right} steps with right sources, {wrong} with a wrong one");
+    assert!(right > 1_000 && wrong > 1_000);
 }

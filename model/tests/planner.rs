@@ -12,7 +12,7 @@ use kobdrieft_model::*;
 fn hold(room: &Room, tail: usize) -> Answer {
     let cluster = cluster_bytes(room);
     assert!(cluster.len() <= 65_535);
-    let mut out: Vec<u8> = (0..2_051 + tail).map(|i| (i % 251) as u8).collect();
+    let mut out: Vec<u8> = (0..2_562 + tail).map(|i| (i % 251) as u8).collect();
     let before = out.clone();
     let answer = build(&cluster, &mut out);
     let (steps, moves, cost) = match answer {
@@ -21,24 +21,40 @@ fn hold(room: &Room, tail: usize) -> Answer {
         }
         Answer::Refused { .. } => panic!("a cluster made to be accepted was refused: {answer:?}"),
     };
-    let length = 7 + 2 * steps + 2 * moves;
-    assert!(length <= 2_051);
+    let length = 7 + 2 * steps + 3 * moves;
+    assert!(length <= 2_562);
     assert_eq!(out[length..], before[length..]);
-    let written = parse_plan(&out[..length]).expect("the record written has its shape");
+    let plan = parse_plan(&out[..length]).expect("the record written has its shape");
+    assert_eq!(plan.version, Version::Two);
+    let written = plan.steps;
     assert_eq!(written.len(), steps);
+    sources_are_places(room, &written);
     assert_eq!(written.iter().map(Vec::len).sum::<usize>(), moves);
     assert_eq!(cost_again(room, &written), cost);
 
     let away = room.vms.iter().filter(|vm| vm.current != vm.target).count();
     assert!(steps <= (2 * away).saturating_sub(1));
     assert_eq!(steps == 0 && matches!(answer, Answer::Plan { .. }), away == 0);
-    let verdict = check(&cluster, &out[..length]);
-    match answer {
-        Answer::Plan { .. } => assert_eq!(verdict, Verdict::Accepted { cost }),
-        _ => assert_eq!(verdict, Verdict::Refused { number: 19, step: 0 }),
-    }
+    let expected = match answer {
+        Answer::Plan { .. } => Verdict::Accepted { cost },
+        _ => Verdict::Refused { number: 19, step: 0 },
+    };
+    assert_eq!(check(&cluster, &out[..length]), expected);
+    assert_eq!(check(&cluster, &plan_bytes(&bare(&written))), expected);
     pack_answer(answer);
     answer
+}
+
+/// Each move names the place that its VM has when its step starts: where its last move before
+/// this step went, else where the record has it.
+fn sources_are_places(room: &Room, steps: &[Step]) {
+    for (i, step) in steps.iter().enumerate() {
+        for m in step {
+            let earlier = steps[..i].iter().flatten().rev().find(|other| other.vm == m.vm);
+            let place = earlier.map_or(room.vms[m.vm].current, |other| other.to);
+            assert_eq!(m.from, Some(place), "step {}, VM {}", i + 1, m.vm);
+        }
+    }
 }
 
 /// The cost once more, move by move from the start.
@@ -168,7 +184,7 @@ fn sound(room: &Room, place: &[usize], step: &[Move]) -> bool {
 }
 
 fn home(room: &Room, vm: usize) -> Move {
-    Move { vm, to: room.vms[vm].target }
+    Move::bare(vm, room.vms[vm].target)
 }
 
 fn away(room: &Room, place: &[usize]) -> Vec<usize> {
@@ -194,7 +210,7 @@ fn next_step(room: &Room, place: &[usize]) -> Option<Step> {
     }
     let pairs = away(room, place)
         .into_iter()
-        .flat_map(|vm| (0..room.nodes.len()).map(move |to| Move { vm, to }));
+        .flat_map(|vm| (0..room.nodes.len()).map(move |to| Move::bare(vm, to)));
     pairs.into_iter().find(|m| useful(room, place, *m)).map(|m| vec![m])
 }
 

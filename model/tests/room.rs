@@ -3,7 +3,7 @@
 use kobdrieft_model::gen::{cases, Case};
 use kobdrieft_model::reasons::reason;
 use kobdrieft_model::rules::plan_cost;
-use kobdrieft_model::{check, parse_cluster, parse_plan, Room, Step, Verdict};
+use kobdrieft_model::{check, parse_cluster, parse_plan, Plan, Room, Verdict};
 use std::collections::BTreeSet;
 use std::fs;
 use std::path::PathBuf;
@@ -96,7 +96,12 @@ fn from_text_to_a_drawn_plan() {
     assert_eq!(here.prints("check a.cluster a.plan"), "accepted cost 16\n");
     assert_eq!(here.prints("draw a.cluster a.plan a.html"), "");
     assert!(here.get("a.html").starts_with(b"<!DOCTYPE html>"));
-    assert_eq!(here.prints("unpack-plan a.plan"), "step 0 to 2\nstep 1 to 0\nstep 0 to 1\n");
+    let steps = "step 0 from 0 to 2\nstep 1 from 1 to 0\nstep 0 from 2 to 1\n";
+    assert_eq!(here.prints("unpack-plan a.plan"), steps);
+    here.prints("unpack-plan a.plan again.txt");
+    here.prints("pack-plan again.txt again.plan");
+    assert_eq!(here.get("again.plan"), here.get("a.plan"));
+    assert_eq!(here.get("a.plan")[..5], [2, 0, 0, 0, 22]);
     assert_eq!(here.prints("unpack a.cluster again.txt"), "");
     assert_eq!(here.prints("unpack a.cluster").as_bytes(), here.get("again.txt"));
     assert_eq!(here.prints("pack again.txt again.cluster"), "");
@@ -115,6 +120,50 @@ fn plans_by_hand() {
                (this cluster has nodes 0 to 2)";
     here.fails("draw a.cluster far.plan far.html", 2, why);
     assert!(!here.0.join("far.html").exists());
+}
+
+/// A's plan in both versions, and with a source that was right before the VM moved on.
+#[test]
+fn plans_with_and_without_sources() {
+    let here = Folder::new("sources");
+    here.put("a.txt", A);
+    here.prints("pack a.txt a.cluster");
+    let texts = [
+        ("bare", "step 0 to 2\nstep 1 to 0\nstep 0 to 1\n"),
+        ("named", "step 0 from 0 to 2\nstep 1 from 1 to 0\nstep 0 from 2 to 1\n"),
+        ("wrong", "step 0 from 0 to 2\nstep 1 from 1 to 0\nstep 0 from 0 to 1\n"),
+    ];
+    for (name, text) in texts {
+        here.put(name, text);
+        here.prints(&format!("pack-plan {name} {name}.plan"));
+        assert_eq!(here.prints(&format!("unpack-plan {name}.plan")), text);
+        here.prints(&format!("draw a.cluster {name}.plan {name}.html"));
+    }
+    assert_eq!(here.get("bare.plan").len() + 3, here.get("named.plan").len());
+    assert_eq!(here.get("bare.html"), here.get("named.html"));
+    let costs = ["bare", "named"].map(|name| {
+        assert_eq!(here.prints(&format!("check a.cluster {name}.plan")), "accepted cost 16\n");
+        here.prints(&format!("cost a.cluster {name}.plan"))
+    });
+    here.refuses("check a.cluster wrong.plan", 27, 3);
+    let (status, table, err) = here.room("cost a.cluster wrong.plan");
+    assert_eq!((status, err), (0, remark(27, 3)));
+    assert!(costs.iter().all(|cost| *cost == table));
+    here.prints("draw a.cluster wrong.plan given.html 'refused 27 step 3'");
+    let page = String::from_utf8(here.get("given.html")).unwrap();
+    assert!(page.contains("Verdict of the proved checker: <b>refused 27 step 3</b>"));
+    let other =
+        "the verdicts differ: 'accepted cost 16' is given, the model says 'refused 27 step \
+                 3'; nothing is drawn";
+    here.fails("draw a.cluster wrong.plan x.html 'accepted cost 16'", 3, other);
+
+    here.put("mixed", "step 0 from 0 to 2\nstep 1 to 0\n");
+    let why = "mixed:2: VM 1 names no source, but line 1 names a source; a plan does not mix";
+    here.fails("pack-plan mixed x", 3, why);
+    here.put("said", "\nversion 1\nstep 0 from 0 to 2\n");
+    let why = "said:2: version 1 is said, but VM 0 names its source in line 3";
+    here.fails("pack-plan said x", 3, why);
+    assert!(!here.0.join("x").exists());
 }
 
 #[test]
@@ -197,6 +246,8 @@ fn the_cost_of_refused_plans() {
     let twice = "step 0 to 2\nstep 0 to 1, 1 to 0\n";
     holds(twice, &["1 1 3 0 3 3", "2 2 3 3 11 14", "cost 14"], 17, 2);
     holds("step 1 to 9", &["1 1 2 0 2 2", "cost 2"], 15, 1);
+    holds("step 1 from 0 to 2", &["1 1 2 0 2 2", "cost 2"], 27, 1);
+    holds("step 1 from 0 to 1", &["1 1 2 0 2 2", "cost 2"], 15, 1);
 }
 
 #[test]
@@ -207,8 +258,12 @@ fn what_has_no_cost() {
          VMs 0 to 1).\n",
         reason(15)
     );
-    let steps = "step 0 to 2\nstep 1 to 0, 2 to 1\n";
-    assert_eq!(here.cost_of(steps), (2, String::new(), why));
+    for steps in [
+        "step 0 to 2\nstep 1 to 0, 2 to 1\n",
+        "step 0 from 9 to 2\nstep 1 from 1 to 0, 2 from 0 to 1\n",
+    ] {
+        assert_eq!(here.cost_of(steps), (2, String::new(), why.clone()));
+    }
     here.put("short", [1, 0, 0]);
     for (files, number) in [("short a.plan", 1), ("a.cluster short", 11), ("short short", 1)] {
         let why = format!("short: refused with number {number}: {}", reason(number));
@@ -216,22 +271,22 @@ fn what_has_no_cost() {
     }
 }
 
-/// The cluster and the steps, if both records are whole and every VM of the steps is there.
-fn whole(cluster: &[u8], plan: &[u8]) -> Option<(Room, Vec<Step>)> {
-    let (room, steps) = (parse_cluster(cluster).ok()?, parse_plan(plan).ok()?);
-    let all_there = steps.iter().flatten().all(|m| m.vm < room.vms.len());
-    all_there.then_some((room, steps))
+/// The cluster and the plan, if both records are whole and every VM of the plan is there.
+fn whole(cluster: &[u8], plan: &[u8]) -> Option<(Room, Plan)> {
+    let (room, plan) = (parse_cluster(cluster).ok()?, parse_plan(plan).ok()?);
+    let all_there = plan.steps.iter().flatten().all(|m| m.vm < room.vms.len());
+    all_there.then_some((room, plan))
 }
 
 #[test]
 fn the_last_word_is_the_cost() {
     let here = Folder::new("cost-cases");
-    let mut seen = [0; 20];
+    let mut seen = [0; 28];
     for Case { cluster, plan, .. } in cases(4, 400) {
         here.put("cluster", &cluster);
         here.put("plan", &plan);
         let (status, table, err) = here.room("cost cluster plan");
-        let Some((room, steps)) = whole(&cluster, &plan) else {
+        let Some((room, Plan { steps, .. })) = whole(&cluster, &plan) else {
             assert!(status == 2 && table.is_empty(), "{table}");
             assert!(err.contains(": refused with number "), "{err}");
             continue;
@@ -251,12 +306,13 @@ fn the_last_word_is_the_cost() {
         let widths: BTreeSet<usize> = table.lines().map(str::len).collect();
         assert_eq!(widths.len(), 1, "{table}");
     }
-    for number in [0, 8, 9, 15, 16, 17, 18, 19] {
+    for number in [0, 8, 9, 15, 16, 17, 18, 19, 27] {
         assert!(seen[number] > 0, "{number}: {seen:?}");
     }
 }
 
-/// A file of 0 bytes is a plan of no steps, and everything said of it is what is said of the header.
+/// A file of 0 bytes is a plan of no steps, and everything said of it is what is said of a header;
+/// its text is that of the header of version 1.
 #[test]
 fn a_plan_file_of_no_bytes() {
     let here = Folder::new("empty");
@@ -266,14 +322,23 @@ fn a_plan_file_of_no_bytes() {
         here.put(name, text);
         here.prints(&format!("pack {name} {name}.cluster"));
     }
-    here.put("none.txt", "# nothing to do\n");
     here.put("none", "");
-    assert_eq!(here.prints("pack-plan none.txt header"), "");
-    assert_eq!(here.get("header"), [1, 0, 0, 0, 7, 0, 0]);
+    for (text, header, number) in
+        [("# nothing to do\n", "header-1", 1), ("version 2\n# nothing to do\n", "header-2", 2)]
+    {
+        here.put("none.txt", text);
+        assert_eq!(here.prints(&format!("pack-plan none.txt {header}")), "");
+        assert_eq!(here.get(header), [number, 0, 0, 0, 7, 0, 0]);
+    }
     assert_eq!(here.prints("plan home.cluster planned"), "plan steps 0 moves 0 cost 0\n");
-    assert_eq!(here.get("planned"), here.get("header"));
+    assert_eq!(here.get("planned"), here.get("header-2"));
 
-    for plan in ["none", "header"] {
+    let no_steps = [
+        ("none", "# no steps\n", "header-1"),
+        ("header-1", "# no steps\n", "header-1"),
+        ("header-2", "version 2\n# no steps\n", "header-2"),
+    ];
+    for (plan, text, header) in no_steps {
         assert_eq!(here.prints(&format!("check home.cluster {plan}")), "accepted cost 0\n");
         here.refuses(&format!("check a.cluster {plan}"), 19, 0);
         here.refuses(&format!("check full.cluster {plan}"), 8, 0);
@@ -284,10 +349,10 @@ fn a_plan_file_of_no_bytes() {
             assert_eq!(cells(&table), [HEADING, "cost 0"]);
             here.prints(&format!("draw {cluster}.cluster {plan} {cluster}-{plan}.html"));
         }
-        assert_eq!(here.prints(&format!("unpack-plan {plan}")), "# no steps\n");
+        assert_eq!(here.prints(&format!("unpack-plan {plan}")), text);
         here.prints(&format!("unpack-plan {plan} again.txt"));
         here.prints("pack-plan again.txt again");
-        assert_eq!(here.get("again"), here.get("header"));
+        assert_eq!(here.get("again"), here.get(header));
     }
     let shows = |page: &str, line: &str| {
         let page = String::from_utf8(here.get(page)).unwrap();
@@ -296,9 +361,9 @@ fn a_plan_file_of_no_bytes() {
     for (cluster, line) in
         [("home", "accepted cost 0"), ("a", "refused 19 step 0"), ("full", "refused 8 step 0")]
     {
-        let pages = ["none", "header"].map(|plan| format!("{cluster}-{plan}.html"));
+        let pages = no_steps.map(|(plan, ..)| format!("{cluster}-{plan}.html"));
         shows(&pages[0], line);
-        assert_eq!(here.get(&pages[0]), here.get(&pages[1]));
+        assert!(pages.iter().all(|page| here.get(page) == here.get(&pages[0])));
         here.prints(&format!("draw {cluster}.cluster none given.html '{line}'"));
         shows("given.html", line);
         let why = format!(

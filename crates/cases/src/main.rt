@@ -58,9 +58,14 @@ fn nodes(n: u8) -> [u8; 336] {
 
 fn main() {
     show::verdict(&A, b"\x01\0\0\0\x0b\0\x01\0\x01\0\0", b"A, VM 0 to node 0");
+    show::verdict(
+        &A,
+        b"\x02\0\0\0\x0c\0\x01\0\x01\0\0\0",
+        b"A, VM 0 from node 0 to node 0",
+    );
     show::both(&nodes(64)[0..331], b"N = 64");
     show::both(&nodes(65), b"N = 65");
-    show::answer(&A, 2051, b"A, a buffer of 2,051 bytes");
-    show::answer(&A, 2050, b"A, a buffer of 2,050 bytes");
+    show::answer(&A, 2562, b"A, a buffer of 2,562 bytes");
+    show::answer(&A, 2561, b"A, a buffer of 2,561 bytes");
     show::answer(&A, 0, b"A, no buffer");
 }

@@ -61,22 +61,22 @@ fn asked(cluster: &[u8], out: &mut [u8], size: usize, label: &[u8]) {
 }
 
 // How many bytes at the end are as they were.
-fn rest(out: &[u8; 2100]) -> usize {
-    let mut n: usize = 2100;
+fn rest(out: &[u8; 2600]) -> usize {
+    let mut n: usize = 2600;
     while 0 < n {
         if out[n - 1] != 165 {
-            return 2100 - n;
+            return 2600 - n;
         }
         n -= 1;
     }
-    2100
+    2600
 }
 
-// The answer to a cluster with a buffer of so many bytes, at the front of 2,100; then how many of those stay.
+// The answer to a cluster with a buffer of so many bytes, at the front of 2,600; then how many of those stay.
 pub fn answer(cluster: &[u8], size: usize, label: &[u8]) {
-    let mut out = [165u8; 2100];
+    let mut out = [165u8; 2600];
     asked(cluster, &mut out, size, label);
-    line(b"of 2,100 bytes stay", rest(&out) as u64);
+    line(b"of 2,600 bytes stay", rest(&out) as u64);
 }
 
 // The verdict on a plan of no steps, and the answer.

@@ -1,4 +1,5 @@
 -- The laws, by topic.
+pub mod Naming
 pub mod Moves
 pub mod Packing
 pub mod Joining

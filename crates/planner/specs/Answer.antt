@@ -33,9 +33,9 @@ madeOf room steps = record { steps = length steps; moves = moveTotal steps; cost
 unfoldable pub outcome : Room → List Step → Answer
 outcome room steps = pick (home room (afterAll (currentOf room) steps)) (Plan (madeOf room steps)) (Blocked (madeOf room steps))
 
--- the least buffer that is taken
+-- the least buffer that is taken: 7 + 511 × 5 bytes, as never more than 511 steps and 511 moves are written (`Promises.Written`: `small`)
 abbrev pub leastBuffer : ℕ
-leastBuffer = 2051
+leastBuffer = 2562
 
 -- what each check says, and what follows if it finds nothing
 unfoldable pub answerCluster : ClusterCheck → Answer → Answer

@@ -5,9 +5,11 @@ use mathlib.Core.List.{List, [], _∷_, _++_}
 use mathlib.Core.Path.{_≡_}
 use lib.ListN.{length, getD, set}
 use lib.Dec.{eqb}
-use Rattle.records.specs.Base.{pick}
+use Rattle.records.specs.Base.{pick, all}
 use Rattle.records.specs.Room.{Constraint, ban, fence, spread, latency, Room, roomOf, nodeOf, vmOf, vmCount, constraintOf}
-use Rattle.records.specs.Plan.{Step, moveTotal, stepsBytes, written, shaped}
+use Rattle.records.specs.Plan.{Step, withSources, moveTotal, stepsBytes, written, shaped}
+use Rattle.records.specs.Inner.{tellsSources}
+use Rattle.records.specs.declared.plan.Source.the-variants.{Unnamed, Named}
 use Rattle.rules.specs.Moments.{Placement, placeOf, currentOf, targetOf, within, withVm, tallyAt, firstMoment, allRunning}
 use Rattle.rules.specs.Orders.{spreads, some, meetsMate}
 use Rattle.rules.specs.Rules.{allowed, soundStep}
@@ -102,9 +104,16 @@ usefulNode room places v (d ∷ ds) = pick (useful room places v d) d (usefulNod
 
 -- ---- a step as an array of destinations
 
--- VM v's move to a destination
+-- a step without its sources
+unfoldable pub bare : Step → Step
+bare step = withSources (λ move. Unnamed) step
+
+-- VM v's move to a destination; the same from a source
 unfoldable pub moveIn : ℕ → ℕ → Step
 moveIn v d = pick (eqb d noMove) [] (moving v d ∷ [])
+
+unfoldable pub moveFrom : ℕ → ℕ → ℕ → Step
+moveFrom v source d = withSources (λ move. Named source) (moveIn v d)
 
 -- the moves of n VMs from v on
 unfoldable pub movesIn : List ℕ → ℕ → ℕ → Step
@@ -124,6 +133,7 @@ pub record Trailed (s before after : List ℕ) (r : Trail) : Type 0 where
   pub steps : r .steps ≡ length (stepsFor (roomOf s))
   pub moves : r .moves ≡ moveTotal (stepsFor (roomOf s))
   pub home : r .home ≡ home (roomOf s) (afterAll (currentOf (roomOf s)) (stepsFor (roomOf s)))
+  pub tells : all tellsSources (stepsFor (roomOf s)) ≡ true
   pub shaped : shaped (stepsFor (roomOf s)) ≡ true
   pub steps-most : length (stepsFor (roomOf s)) ≤ 511
   pub moves-most : moveTotal (stepsFor (roomOf s)) ≤ 511

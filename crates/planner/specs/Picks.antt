@@ -7,7 +7,8 @@ use lib.ListN.{length}
 use lib.Dec.{eqb}
 use Rattle.records.specs.Base.{pick, sumOf}
 use Rattle.records.specs.Room.{Room}
-use Rattle.records.specs.Plan.{Move, Step}
+use Rattle.records.specs.Plan.{Move, Step, withSources}
+use Rattle.records.specs.declared.plan.Source.the-variants.{Unnamed, Named}
 use Rattle.rules.specs.Moments.{Placement, placeOf, targetOf, after}
 use Rattle.rules.specs.Orders.{some}
 use Rattle.rules.specs.Rules.{from, soundStep}
@@ -31,9 +32,9 @@ awayCount room places = sumOf (λ v. pick (away room places v) 1 0) (vmsIn room)
 
 -- ---- direct moves
 
--- the move of VM v to node d, and to its target
+-- the move of VM v to node d, and to its target; the source is named once the step is whole (`nextStep`)
 abbrev pub moving : ℕ → ℕ → Move
-moving v d = record { vm = v; to = d }
+moving v d = record { vm = v; source = Unnamed; to = d }
 
 abbrev pub direct : Room → ℕ → Move
 direct room v = moving v (placeOf (targetOf room) v)
@@ -87,9 +88,13 @@ pivotStep room places = pivotFirst room places (vmsIn room)
 
 -- ---- the steps
 
--- the next step: the direct step, or if nothing can be added to it the pivot; no move if there is neither
+-- a step whose moves name where their VMs are (02, Job 7)
+unfoldable pub fromPlaces : Placement → Step → Step
+fromPlaces places step = withSources (λ move. Named (placeOf places (move .vm))) step
+
+-- the next step: the direct step, or if nothing can be added to it the pivot, its moves naming their sources; no move if there is neither
 unfoldable pub nextStep : Room → Placement → Step
-nextStep room places = orElse (directStep room places) (pivotStep room places)
+nextStep room places = fromPlaces places (orElse (directStep room places) (pivotStep room places))
 
 -- steps are the planner's from a placement: the next step there, then those from the placement it leaves; none once there is no next step
 pub data Picks (room : Room) : Placement → List Step → Type 0 where

@@ -7,7 +7,7 @@ use mathlib.Core.Logic.{_↔_, _⊎_}
 use mathlib.Core.Path.{_≡_}
 use lib.ListN.{length}
 use Rattle.records.specs.Room.{Room, roomOf, clusterCheck}
-use Rattle.records.specs.Plan.{Step, stepsOf, moveTotal, headerBytes, planBytes}
+use Rattle.records.specs.Plan.{Step, versionOf, stepsOf, moveTotal, headerBytes, planBytes, writtenVersion}
 use Rattle.records.specs.declared.faults.ClusterCheck.{ClusterCheck}
 use Rattle.rules.specs.Moments.{Placement, currentOf}
 use Rattle.rules.specs.Orders.{Run, EachBeginOfRun}
@@ -15,7 +15,7 @@ use Rattle.rules.specs.Rules.{targetCheck, soundStep}
 use Rattle.rules.specs.Cost.{costOf}
 use Rattle.rules.specs.Verdict.{verdictOf}
 use Rattle.rules.specs.Returned.{toldNumber, toldStep, toldSteps, toldMoves, toldCost, SaysGood, SaysBlocked, SaysRefused}
-use Rattle.rules.specs.Promises.{afterAll, namedAll, Obeys, EveryRun, SoundInOrders, StaysWithin, StaysApart}
+use Rattle.rules.specs.Promises.{afterAll, namedAll, sourcedAll, Obeys, EveryRun, SoundInOrders, NamesPlaces, StaysWithin, StaysApart}
 use Rattle.rules.specs.declared.faults.TargetCheck.{TargetCheck}
 use Rattle.rules.specs.declared.faults.Fault.{Fault}
 use Rattle.rules.specs.declared.faults.Verdict.{Verdict}
@@ -61,8 +61,9 @@ pub record Stuck (room : Room) (places : Placement) : Type 0 where
 pub record Written (cluster plan : List ℕ) (made : Made) : Type 0 where
   -- they are the ones that the planner picks
   pub picks : Picks (roomOf cluster) (currentOf (roomOf cluster)) (stepsOf plan)
-  -- none has fault 15, and every whole run, whatever its orders, obeys the rules at each begin and reaches one placement
+  -- none has fault 15 or 27, and every whole run, whatever its orders, obeys the rules at each begin and reaches one placement
   pub named : namedAll (roomOf cluster) (currentOf (roomOf cluster)) (stepsOf plan) ≡ true
+  pub well-sourced : sourcedAll (currentOf (roomOf cluster)) (stepsOf plan) ≡ true
   pub obeys : (last : Placement) (run : Run (roomOf cluster) (currentOf (roomOf cluster)) (stepsOf plan) last) → EachBeginOfRun (Obeys (roomOf cluster)) run
   pub reaches : (last : Placement) → Run (roomOf cluster) (currentOf (roomOf cluster)) (stepsOf plan) last → last ≡ afterAll (currentOf (roomOf cluster)) (stepsOf plan)
   -- in no run does a node that is within what it has go past it, or an overfull one take an arrival, or do mates that are apart meet
@@ -71,8 +72,11 @@ pub record Written (cluster plan : List ℕ) (made : Made) : Type 0 where
   -- how many steps there can be, by the number of VMs out of place at the current nodes
   pub none : awayCount (roomOf cluster) (currentOf (roomOf cluster)) ≡ 0 → stepsOf plan ≡ []
   pub short : 0 < awayCount (roomOf cluster) (currentOf (roomOf cluster)) → length (stepsOf plan) + 1 ≤ 2 * awayCount (roomOf cluster) (currentOf (roomOf cluster))
+  -- the record names the sources: each move that of its VM when the step starts, in every run (02, Job 7)
+  pub version : versionOf plan ≡ writtenVersion
+  pub sources : NamesPlaces (roomOf cluster) (currentOf (roomOf cluster)) (stepsOf plan)
   -- of no steps the header is still written (02, Job 8)
-  pub header : stepsOf plan ≡ [] → plan ≡ headerBytes 7 0
+  pub header : stepsOf plan ≡ [] → plan ≡ headerBytes writtenVersion 7 0
   -- the record fits the least buffer that is taken
   pub small : length plan ≤ leastBuffer
   -- the counts and the cost given are those of the record

@@ -20,8 +20,8 @@ ghost use Rattle.planner.specs.Promises.{Answers};
 ghost use Rattle.planner.specs.declared.answer.Answer.{Answer};
 ghost use Rattle.planner.specs.declared.answer.BuildFault.{BuildFault};
 
-// The least buffer that is taken: the longest record that can come out.
-pub const LEAST_BUFFER: usize = 2051;
+// The least buffer that is taken. No longer record comes out.
+pub const LEAST_BUFFER: usize = 2562;
 
 // The steps made, their record and their counts, for a buffer that is long enough.
 fn planned(cluster: &[u8], out: &mut [u8]) -> Answer

@@ -12,13 +12,13 @@ ghost use Prim.Native.Nat.{_+_, _*_, _≤_, _<_};
 ghost use lib.ListN.{length};
 ghost use lib.Dec.{ltb};
 ghost use Rattle.records.specs.Room.{roomOf, clusterCheck};
-ghost use Rattle.records.specs.Plan.{movesBytes, written};
+ghost use Rattle.records.specs.Plan.{movesBytes, written, writtenWidth};
 ghost use Rattle.records.specs.declared.faults.ClusterCheck.{ClusterCheck};
 ghost use Rattle.rules.specs.Moments.{after};
 ghost use Rattle.rules.specs.Inner.{held, Allows, Placed, destsFrom};
-ghost use Rattle.planner.specs.Picks.{nextStep};
+ghost use Rattle.planner.specs.Picks.{fromPlaces, nextStep};
 ghost use Rattle.planner.specs.Answer.{leastBuffer};
-ghost use Rattle.planner.specs.Inner.{Pairs, moveIn, movesIn, behindStep, Trailed};
+ghost use Rattle.planner.specs.Inner.{Pairs, moveIn, moveFrom, movesIn, behindStep, Trailed};
 
 // Whether some VM has a destination.
 fn has_moves(dests: &Destinations, n: usize) -> bool
@@ -52,28 +52,34 @@ fn next_step(
     pivot_step(cluster, allow, pairs, places)
 }
 
-// Puts VM v's move, if it has one, as move n of the step at a place, and tells how many moves there are then.
-fn put_move(out: &mut [u8], at: usize, n: usize, v: usize, d: u8) -> usize
-    requires { ⌜ (at + 2 + n * 2 + length (moveIn v d) * 2 ≤ length (now out)) × (v < 256) ⌝ }
-    ensures { λ r. ⌜ (r ≡ n + length (moveIn v d)) × (now (out .exit) ≡ written (now (out .entry)) (at + 2 + n * 2) (movesBytes (moveIn v d))) ⌝ }
+// Puts VM v's move, if it has one, as move n of the step at a place, with its source, and tells how many moves there are then.
+fn put_move(out: &mut [u8], at: usize, n: usize, v: usize, source: u8, d: u8) -> usize
+    requires { ⌜ (at + 2 + n * writtenWidth + length (moveIn v d) * writtenWidth ≤ length (now out)) × (v < 256) ⌝ }
+    ensures { λ r. ⌜ (r ≡ n + length (moveIn v d)) × (now (out .exit) ≡ written (now (out .entry)) (at + 2 + n * writtenWidth) (movesBytes (moveFrom v source d))) ⌝ }
 {
     if d == NO_MOVE {
         return n;
     }
-    records::append_move(out, at, n, v as u8, d);
+    records::append_move(out, at, n, v as u8, source, d);
     n + 1
 }
 
-// Puts the moves of a step at a place, and tells how many there are.
-fn put_moves(out: &mut [u8], at: usize, dests: &Destinations, vms: usize) -> usize
-    requires { ⌜ (at + 2 + length (movesIn (now dests) 0 vms) * 2 ≤ length (now out)) × (vms ≤ 256) ⌝ }
-    ensures { λ r. ⌜ (r ≡ length (movesIn (now (dests .entry)) 0 vms)) × (now (out .exit) ≡ written (now (out .entry)) (at + 2) (movesBytes (movesIn (now (dests .entry)) 0 vms))) ⌝ }
+// Puts the moves of a step at a place, each from where its VM is, and tells how many there are.
+fn put_moves(
+    out: &mut [u8],
+    at: usize,
+    places: &Placement,
+    dests: &Destinations,
+    vms: usize,
+) -> usize
+    requires { ⌜ (at + 2 + length (movesIn (now dests) 0 vms) * writtenWidth ≤ length (now out)) × (vms ≤ 256) ⌝ }
+    ensures { λ r. ⌜ (r ≡ length (movesIn (now (dests .entry)) 0 vms)) × (now (out .exit) ≡ written (now (out .entry)) (at + 2) (movesBytes (fromPlaces (now (places .entry)) (movesIn (now (dests .entry)) 0 vms)))) ⌝ }
 {
     let mut n: usize = 0;
     let mut v: usize = 0;
     while v < vms {
         let d = dests[v];
-        n = put_move(out, at, n, v, d);
+        n = put_move(out, at, n, v, places[v], d);
         v += 1;
     }
     n
@@ -123,7 +129,7 @@ pub fn write_steps(cluster: &[u8], allow: &AllowTable, pairs: &PairTable, out: &
         if !has_moves(&dests, vms) {
             break;
         }
-        let n = put_moves(out, end, &dests, vms);
+        let n = put_moves(out, end, &places, &dests, vms);
         end = records::finish_step(out, end, n);
         places = moved(places, &dests, vms);
         steps += 1;

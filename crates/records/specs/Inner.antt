@@ -8,7 +8,9 @@ use lib.Dec.{ltb, leb, eqb}
 use Rattle.records.specs.Base.{pick, all}
 use Rattle.records.specs.Bytes.{byteAt}
 use Rattle.records.specs.Room.{listOk, apart, nodesAt, nodesEnd, groupsFrom, groupsEnd, kindAt, nodeCount, vmCount, partsFrom, partsEnd, wellFormed}
-use Rattle.records.specs.Plan.{stepsFrom, stepsEnd, sized, moveTotal}
+use Rattle.records.specs.Plan.{Step, stepsFrom, stepsEnd, sized, moveTotal}
+use Rattle.records.specs.declared.plan.Source.{Source}
+use Rattle.records.specs.declared.plan.Source.the-variants.{Unnamed, Named}
 use Rattle.records.specs.declared.lists.Listed.{Listed}
 use Rattle.records.specs.declared.lists.Listed.the-variants.{Ends, Bad}
 
@@ -77,6 +79,14 @@ othersOk limit p at =
 unfoldable pub stepsOk : List ℕ → ℕ → ℕ → ℕ → Bool
 stepsOk s at n moves =
     all sized (stepsFrom s at n) && (leb (moves + moveTotal (stepsFrom s at n)) 1024 && eqb (stepsEnd s at n) (length s))
+
+-- a source is named; every move of a step names its own
+unfoldable pub tellsSource : Source → Bool
+tellsSource Unnamed = false
+tellsSource (Named node) = true
+
+unfoldable pub tellsSources : Step → Bool
+tellsSources step = all (λ move. tellsSource (move .source)) step
 
 -- ---- where a walk over an undamaged record stands
 

@@ -1,14 +1,16 @@
 -- The plan record (01, "The two records" and refusals 11 to 14): the steps that bytes stand for, what makes them damaged, and the
 -- record that steps are written as.
-use Prim.Native.Nat.{ℕ, zero, suc, _+_, _*_}
-use mathlib.Core.Bool.{Bool, not, _&&_}
-use mathlib.Core.List.{List, [], _∷_, _++_}
+use Prim.Native.Nat.{ℕ, zero, suc, _+_, _-_, _*_}
+use mathlib.Core.Bool.{Bool, not, _&&_, _||_}
+use mathlib.Core.List.{List, [], _∷_, _++_, map}
 use mathlib.Core.Path.{_≡_}
 use lib.ListN.{length, getD, take, drop}
 use lib.Dec.{ltb, leb, eqb}
 use Rattle.records.specs.Base.{pick, all, sumOf}
 use Rattle.records.specs.Bytes.{byteAt, be16, be32, bytes16, bytes32, AreBytes}
 use Rattle.records.specs.Room.{rows}
+use Rattle.records.specs.declared.plan.Source.{Source}
+use Rattle.records.specs.declared.plan.Source.the-variants.{Unnamed, Named}
 use Rattle.records.specs.declared.faults.PlanFault.{PlanFault}
 use Rattle.records.specs.declared.faults.PlanFault.the-variants.{TooShort, Version, Length, Shape}
 use Rattle.records.specs.declared.faults.PlanCheck.{PlanCheck}
@@ -16,18 +18,23 @@ use Rattle.records.specs.declared.faults.PlanCheck.the-variants.{Whole, 
 
 -- ---- what a record stands for
 
--- a move: a VM and the node it goes to
+-- a move: a VM, the source that it names or none (02, Job 7), and the node it goes to
 pub record Move : Type 0 where
   pub vm : ℕ
+  pub source : Source
   pub to : ℕ
 
 -- a step: the moves that run side by side
 abbrev pub Step : Type 0
 Step = List Move
 
+-- a step whose moves name other sources, VMs and destinations staying
+unfoldable pub withSources : (Move → Source) → Step → Step
+withSources names step = map (λ move. record { vm = move .vm; source = names move; to = move .to }) step
+
 -- move i of a step; nothing where there is none
 abbrev pub noMove : Move
-noMove = record { vm = 0; to = 0 }
+noMove = record { vm = 0; source = Unnamed; to = 0 }
 
 unfoldable pub moveOf : Step → ℕ → Move
 moveOf step i = getD step i noMove
@@ -37,19 +44,35 @@ moveOf step i = getD step i noMove
 abbrev pub stepCount : List ℕ → ℕ
 stepCount s = be16 s 5
 
--- a move is two bytes
+-- there are two versions: 1 names no sources, 2 names that of each move (02, Job 7)
+abbrev pub versionOf : List ℕ → ℕ
+versionOf s = byteAt s 0
+
+unfoldable pub knownVersion : ℕ → Bool
+knownVersion version = eqb version 1 || eqb version 2
+
+unfoldable pub namesSources : ℕ → Bool
+namesSources version = eqb version 2
+
+-- so a move has two bytes or three: first its VM, last its destination, between them the source if there is one
+unfoldable pub moveWidth : List ℕ → ℕ
+moveWidth s = pick (namesSources (versionOf s)) 3 2
+
+unfoldable pub sourceAt : List ℕ → ℕ → Source
+sourceAt s at = pick (namesSources (versionOf s)) (Named (byteAt s at)) Unnamed
+
 unfoldable pub moveAt : List ℕ → ℕ → Move
-moveAt s at = record { vm = byteAt s at; to = byteAt s (at + 1) }
+moveAt s at = record { vm = byteAt s at; source = sourceAt s (at + 1); to = byteAt s (at + moveWidth s - 1) }
 
 -- a step is a count of two bytes and its moves; it ends where the last move does
 abbrev pub moveCount : List ℕ → ℕ → ℕ
 moveCount s at = be16 s at
 
 unfoldable pub stepAt : List ℕ → ℕ → Step
-stepAt s at = rows (moveAt s) 2 (at + 2) (moveCount s at)
+stepAt s at = rows (moveAt s) (moveWidth s) (at + 2) (moveCount s at)
 
 abbrev pub stepEnd : List ℕ → ℕ → ℕ
-stepEnd s at = at + 2 + moveCount s at * 2
+stepEnd s at = at + 2 + moveCount s at * moveWidth s
 
 -- so many steps from a place, and where the last one ends
 unfoldable pub stepsFrom : List ℕ → ℕ → ℕ → List Step
@@ -86,10 +109,14 @@ unfoldable pub planCheck : List ℕ → PlanCheck
 planCheck s =
     pick (eqb (length s) 0) Whole
     (refusePlan (ltb (length s) 7) TooShort
-    (refusePlan (not (eqb (byteAt s 0) 1)) Version
+    (refusePlan (not (knownVersion (versionOf s))) Version
     (refusePlan (not (eqb (be32 s 1) (length s))) Length
     (refusePlan (not (shaped (stepsOf s) && eqb (stepsEnd s 7 (stepCount s)) (length s))) Shape
     Whole))))
+
+-- the longest undamaged record: 512 steps and 1,024 moves of three bytes (`Laws.Steps.plan-most`)
+abbrev pub longestPlan : ℕ
+longestPlan = 4103
 
 -- what reading a plan record answers: that fault, and for those who compute with the record that its elements are bytes
 pub record PlanRead (s : List ℕ) (r : PlanCheck) : Type 0 where
@@ -105,9 +132,13 @@ planNumber Shape = 14
 
 -- ---- writing
 
--- the bytes of a move, of a step's moves, of a step, of steps one behind the other
+-- the bytes of a source, of a move, of a step's moves, of a step, of steps one behind the other
+unfoldable pub sourceBytes : Source → List ℕ
+sourceBytes Unnamed = []
+sourceBytes (Named node) = node ∷ []
+
 unfoldable pub moveBytes : Move → List ℕ
-moveBytes move = move .vm ∷ move .to ∷ []
+moveBytes move = move .vm ∷ sourceBytes (move .source) ++ (move .to ∷ [])
 
 unfoldable pub movesBytes : Step → List ℕ
 movesBytes [] = []
@@ -120,13 +151,20 @@ unfoldable pub stepsBytes : List Step → List ℕ
 stepsBytes [] = []
 stepsBytes (step ∷ steps) = stepBytes step ++ stepsBytes steps
 
--- the header of a record of so many bytes and steps
-unfoldable pub headerBytes : ℕ → ℕ → List ℕ
-headerBytes size steps = 1 ∷ bytes32 size ++ bytes16 steps
+-- the header of a record of a version, of so many bytes and steps
+unfoldable pub headerBytes : ℕ → ℕ → ℕ → List ℕ
+headerBytes version size steps = version ∷ bytes32 size ++ bytes16 steps
 
--- the record of steps
+-- a record is written in version 2, in which a move has three bytes
+abbrev pub writtenVersion : ℕ
+writtenVersion = 2
+
+abbrev pub writtenWidth : ℕ
+writtenWidth = 3
+
+-- the record of steps whose moves all name their sources
 unfoldable pub planBytes : List Step → List ℕ
-planBytes steps = headerBytes (7 + length (stepsBytes steps)) (length steps) ++ stepsBytes steps
+planBytes steps = headerBytes writtenVersion (7 + length (stepsBytes steps)) (length steps) ++ stepsBytes steps
 
 -- a buffer with bytes put at a place: all else stays
 unfoldable pub written : List ℕ → ℕ → List ℕ → List ℕ

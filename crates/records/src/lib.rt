@@ -1,5 +1,5 @@
 // The cluster record and the plan record: whether they are whole, what they say, and writing a plan. Records are read in place and
-// never copied; every offset is known here alone.
+// never copied; widths and offsets are known here, but for a step's count of two bytes and the first step's place, 7.
 mod bytes;
 mod cluster;
 mod constraints;
@@ -45,7 +45,10 @@ pub use constraints::named_nodes;
 pub use walk::part;
 
 // A plan record.
+pub use plan::LONGEST_PLAN;
+pub use plan::Source;
 pub use plan::move_count;
+pub use plan::move_source;
 pub use plan::move_to;
 pub use plan::move_vm;
 pub use plan::plan_check;

@@ -6,13 +6,51 @@ use crate::faults::PlanCheck;
 use crate::faults::PlanFault;
 ghost use mathlib.Core.Path.{_≡_};
 ghost use mathlib.Core.Bool.{_&&_};
-ghost use Prim.Native.Nat.{_+_, _≤_, _<_, _^_};
+ghost use Prim.Native.Nat.{_+_, _*_, _≤_, _<_, _^_};
 ghost use lib.ListN.{length};
 ghost use Rattle.records.specs.Bytes.{be32};
 ghost use lib.Dec.{eqb};
-ghost use Rattle.records.specs.Plan.{stepCount, moveCount, moveOf, stepAt, stepEnd, stepsOf, stepsEnd, shaped, planCheck, PlanRead};
+ghost use Rattle.records.specs.Plan.{stepCount, moveCount, moveOf, moveWidth, versionOf, knownVersion, namesSources, stepAt, stepEnd, stepsOf, stepsEnd, shaped, planCheck, PlanRead};
 ghost use Rattle.records.specs.Inner.{stepsOk};
 ghost use Rattle.records.specs.declared.faults.PlanCheck.{PlanCheck};
+
+// The source that a move names. Version 1 names none.
+pub enum Source {
+    Unnamed,
+    Named(u8),
+}
+
+// The version whose moves name no source, and the one whose moves do; how many bytes a move has in each.
+const PLAIN: u8 = 1;
+
+pub const NAMING: u8 = 2;
+
+const PLAIN_WIDTH: usize = 2;
+
+pub const NAMING_WIDTH: usize = 3;
+
+// The longest undamaged record: 7 + 512 × 2 + 1,024 × 3.
+pub const LONGEST_PLAN: usize = 4103;
+
+// Whether the moves of a record name their sources.
+fn names_sources(s: &[u8]) -> bool
+    requires { ⌜ 0 < length (now s) ⌝ }
+    ensures { λ r. ⌜ r ≡ namesSources (versionOf (now (s .entry))) ⌝ }
+{
+    byte(s, 0) == NAMING
+}
+
+// How many bytes n moves of a record take.
+fn moves_size(s: &[u8], n: usize) -> usize
+    requires { ⌜ (0 < length (now s)) × (n < 2 ^ 62) ⌝ }
+    ensures { λ r. ⌜ (r ≡ n * moveWidth (now (s .entry))) × (r ≤ n * 3) ⌝ }
+{
+    if names_sources(s) {
+        n * NAMING_WIDTH
+    } else {
+        n * PLAIN_WIDTH
+    }
+}
 
 // Whether so many steps from behind the header have counts in their ranges and fill the record.
 fn steps_sound(s: &[u8], count: usize) -> bool
@@ -33,10 +71,11 @@ fn steps_sound(s: &[u8], count: usize) -> bool
         if 256 < n {
             return false;
         }
-        if s.len() - at - 2 < n * 2 {
+        let size = moves_size(s, n);
+        if s.len() - at - 2 < size {
             return false;
         }
-        at = at + 2 + n * 2;
+        at = at + 2 + size;
         moves += n;
         left -= 1;
     }
@@ -58,6 +97,16 @@ fn shape_sound(s: &[u8]) -> bool
     steps_sound(s, count)
 }
 
+// 12: whether a version is one of the two.
+fn version_known(version: u8) -> bool
+    ensures { λ r. ⌜ r ≡ knownVersion version ⌝ }
+{
+    if version == PLAIN {
+        return true;
+    }
+    version == NAMING
+}
+
 // The first fault in checking order. 0 bytes are a plan of no steps.
 fn first_fault(s: &[u8]) -> PlanCheck
     ensures { λ r. ⌜ r ≡ planCheck (now (s .entry)) ⌝ }
@@ -68,7 +117,7 @@ fn first_fault(s: &[u8]) -> PlanCheck
     if s.len() < 7 {
         return PlanCheck::Damaged(PlanFault::TooShort);
     }
-    if byte(s, 0) != 1 {
+    if !version_known(byte(s, 0)) {
         return PlanCheck::Damaged(PlanFault::Version);
     }
     let stated = be32(s, 1) as usize;
@@ -117,7 +166,15 @@ pub fn step_end(s: &[u8], at: usize) -> usize
     requires { ⌜ stepEnd (now s) at ≤ length (now s) ⌝ }
     ensures { λ r. ⌜ r ≡ stepEnd (now (s .entry)) at ⌝ }
 {
-    at + 2 + count16(s, at) * 2
+    at + 2 + moves_size(s, count16(s, at))
+}
+
+// Where move i of the step at a place stands.
+fn move_place(s: &[u8], at: usize, i: usize) -> usize
+    requires { ⌜ (stepEnd (now s) at ≤ length (now s)) × (i < moveCount (now s) at) ⌝ }
+    ensures { λ r. ⌜ (r ≡ at + 2 + i * moveWidth (now (s .entry))) × (r + moveWidth (now (s .entry)) ≤ length (now (s .entry))) × (r + 2 ≤ length (now (s .entry))) ⌝ }
+{
+    at + 2 + moves_size(s, i)
 }
 
 // The VM of move i of the step at a place.
@@ -125,7 +182,7 @@ pub fn move_vm(s: &[u8], at: usize, i: usize) -> u8
     requires { ⌜ (stepEnd (now s) at ≤ length (now s)) × (i < moveCount (now s) at) ⌝ }
     ensures { λ r. ⌜ r ≡ moveOf (stepAt (now (s .entry)) at) i .vm ⌝ }
 {
-    byte(s, at + 2 + i * 2)
+    byte(s, move_place(s, at, i))
 }
 
 // Its destination.
@@ -133,5 +190,17 @@ pub fn move_to(s: &[u8], at: usize, i: usize) -> u8
     requires { ⌜ (stepEnd (now s) at ≤ length (now s)) × (i < moveCount (now s) at) ⌝ }
     ensures { λ r. ⌜ r ≡ moveOf (stepAt (now (s .entry)) at) i .to ⌝ }
 {
-    byte(s, at + 2 + i * 2 + 1)
+    byte(s, move_place(s, at, i) + moves_size(s, 1) - 1)
+}
+
+// The source that it names.
+pub fn move_source(s: &[u8], at: usize, i: usize) -> Source
+    requires { ⌜ (stepEnd (now s) at ≤ length (now s)) × (i < moveCount (now s) at) ⌝ }
+    ensures { λ r. ⌜ r ≡ moveOf (stepAt (now (s .entry)) at) i .source ⌝ }
+{
+    if names_sources(s) {
+        Source::Named(byte(s, move_place(s, at, i) + 1))
+    } else {
+        Source::Unnamed
+    }
 }

@@ -1,9 +1,13 @@
-// Writing a plan record into a lent buffer: moves, then their step's count, then the header. Nothing else in the buffer changes.
+// Writing a plan record into a lent buffer, in the version that names sources: moves, then their step's count, then the header. Nothing
+// else in the buffer changes.
+use crate::plan::NAMING;
+use crate::plan::NAMING_WIDTH;
 ghost use mathlib.Core.Path.{_≡_};
 ghost use Prim.Native.Nat.{_+_, _*_, _≤_, _<_, _^_};
 ghost use lib.ListN.{length};
 ghost use Rattle.records.specs.Bytes.{bytes16, bytes32};
-ghost use Rattle.records.specs.Plan.{moveBytes, headerBytes, written};
+ghost use Rattle.records.specs.Plan.{writtenVersion, writtenWidth, moveBytes, headerBytes, written};
+ghost use Rattle.records.specs.declared.plan.Source.{Source};
 
 // Puts a number as two bytes.
 fn put16(out: &mut [u8], at: usize, x: usize)
@@ -25,31 +29,32 @@ fn put32(out: &mut [u8], at: usize, x: usize)
     out[at + 3] = (x % 256) as u8;
 }
 
-// Puts move n of the step that starts at a place.
-pub fn append_move(out: &mut [u8], at: usize, n: usize, vm: u8, to: u8)
-    requires { ⌜ at + 2 + n * 2 + 2 ≤ length (now out) ⌝ }
-    ensures { λ r. ⌜ now (out .exit) ≡ written (now (out .entry)) (at + 2 + n * 2) (moveBytes (record { vm = vm; to = to })) ⌝ }
+// Puts move n of the step that starts at a place, with the source it names.
+pub fn append_move(out: &mut [u8], at: usize, n: usize, vm: u8, source: u8, to: u8)
+    requires { ⌜ at + 2 + n * writtenWidth + writtenWidth ≤ length (now out) ⌝ }
+    ensures { λ r. ⌜ now (out .exit) ≡ written (now (out .entry)) (at + 2 + n * writtenWidth) (moveBytes (record { vm = vm; source = Source.Named source; to = to })) ⌝ }
 {
-    let place = at + 2 + n * 2;
+    let place = at + 2 + n * NAMING_WIDTH;
     out[place] = vm;
-    out[place + 1] = to;
+    out[place + 1] = source;
+    out[place + 2] = to;
 }
 
 // Puts the count of the step that starts at a place, and tells where the next one starts.
 pub fn finish_step(out: &mut [u8], at: usize, n: usize) -> usize
-    requires { ⌜ at + 2 + n * 2 ≤ length (now out) ⌝ }
-    ensures { λ r. ⌜ (r ≡ at + 2 + n * 2) × (now (out .exit) ≡ written (now (out .entry)) at (bytes16 n)) ⌝ }
+    requires { ⌜ at + 2 + n * writtenWidth ≤ length (now out) ⌝ }
+    ensures { λ r. ⌜ (r ≡ at + 2 + n * writtenWidth) × (now (out .exit) ≡ written (now (out .entry)) at (bytes16 n)) ⌝ }
 {
     put16(out, at, n);
-    at + 2 + n * 2
+    at + 2 + n * NAMING_WIDTH
 }
 
 // Puts the header of a record that ends at a place and has so many steps.
 pub fn finish_plan(out: &mut [u8], end: usize, steps: usize)
     requires { ⌜ 7 ≤ length (now out) ⌝ }
-    ensures { λ r. ⌜ now (out .exit) ≡ written (now (out .entry)) 0 (headerBytes end steps) ⌝ }
+    ensures { λ r. ⌜ now (out .exit) ≡ written (now (out .entry)) 0 (headerBytes writtenVersion end steps) ⌝ }
 {
     put16(out, 5, steps);
     put32(out, 1, end);
-    out[0] = 1;
+    out[0] = NAMING;
 }

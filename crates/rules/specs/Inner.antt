@@ -181,7 +181,7 @@ pub record Held (s plan : List ℕ) (at : ℕ) (places : List ℕ) : Type 0 wher
 -- 17 and 18
 unfoldable pub runningCheck : Room → Placement → Step → StepCheck
 runningCheck room places step =
-    pick (not (fitting room places step)) (StepCheck.Faulty StepFault.Misfit) (pick (not (unmet room places step)) (StepCheck.Faulty StepFault.Mate) StepCheck.Sound)
+    pick (not (fitting room places step)) (StepCheck.Faulty StepFault.Misfit) (pick (not (unmet room places step)) (StepCheck.Faulty StepFault.Mate) StepCheck.Clear)
 
 -- the sum over the moves of a step, behind steps of a given cost
 unfoldable pub movesCost : Room → ℕ → Step → ℕ

@@ -1,17 +1,19 @@
 -- What `check` promises of its verdict, over every order and every whole run (the demands on checking, and 01, "When a step is sound").
 use Prim.Native.Nat.{ℕ, suc, _<_, _≤_, _^_}
 use mathlib.Core.Bool.{Bool, true, false, _&&_}
-use mathlib.Core.List.{List, [], _∷_}
-use mathlib.Core.Logic.{_↔_}
+use mathlib.Core.List.{List, [], _∷_, map}
+use mathlib.Core.Logic.{_↔_, _⊎_}
 use mathlib.Core.Path.{_≡_}
 use lib.ListN.{length, getD, take}
 use Rattle.records.specs.Room.{Room, nodeOf, roomOf, clusterCheck}
-use Rattle.records.specs.Plan.{Step, stepsOf, planCheck, headerBytes}
+use Rattle.records.specs.Plan.{Move, Step, withSources, moveOf, versionOf, stepsOf, planCheck, headerBytes}
+use Rattle.records.specs.declared.plan.Source.{Source}
+use Rattle.records.specs.declared.plan.Source.the-variants.{Named}
 use Rattle.records.specs.declared.faults.ClusterCheck.{ClusterCheck}
 use Rattle.records.specs.declared.faults.PlanCheck.{PlanCheck}
 use Rattle.rules.specs.Moments.{Placement, placeOf, currentOf, targetOf, after, Moment, tallyAt, within, firstMoment, atRest, settled}
 use Rattle.rules.specs.Orders.{Order, Run, fits, mates, meetsMate, Apart, MayBegin, EachBegin, SomeBegin, EachBeginOfRun, EachMomentOfRun, EachChangeOfRun}
-use Rattle.rules.specs.Rules.{allowed, targetCheck, named, permitted, soundStep}
+use Rattle.rules.specs.Rules.{allowed, targetCheck, named, sourced, permitted, soundStep}
 use Rattle.rules.specs.Cost.{costOf}
 use Rattle.rules.specs.Verdict.{home, verdictOf, faultNumber, faultStep, packed}
 use Rattle.rules.specs.Returned.{toldNumber, toldStep, toldCost, SaysGood, SaysRefused}
@@ -27,6 +29,11 @@ afterAll places (step ∷ steps) = afterAll (after places step) steps
 unfoldable pub namedAll : Room → Placement → List Step → Bool
 namedAll room places [] = true
 namedAll room places (step ∷ steps) = named room places 0 step && namedAll room (after places step) steps
+
+-- no step has fault 27, each at the placement it starts from
+unfoldable pub sourcedAll : Placement → List Step → Bool
+sourcedAll places [] = true
+sourcedAll places (step ∷ steps) = sourced places step && sourcedAll (after places step) steps
 
 -- every step is sound, each at the placement it starts from
 unfoldable pub soundAll : Room → Placement → List Step → Bool
@@ -61,43 +68,73 @@ pub record SomeOrder (room : Room) (places : Placement) (step : Step) (P : Momen
   pub whole : settled end ≡ true
   pub begin : SomeBegin P order
 
--- ---- what the numbers 15 to 19 mean
+-- ---- what the numbers 15 to 19 and 27 mean
 
 -- 15: a VM is not there or not above the one before it, or a destination is not there or is its VM's place
 pub record FaultNames (room : Room) (places : Placement) (step : Step) : Type 0 where
   pub misnamed : named room places 0 step ≡ false
 
--- 16: not 15, and some destination is banned or outside a fence
+-- 27: not 15, and some move names a node that its VM is not on
+abbrev pub NamesElsewhere : Placement → Step → Type 0
+NamesElsewhere places step = (i : ℕ) × (i < length step) × (node : ℕ) × (moveOf step i .source ≡ Named node) × (node ≡ placeOf places (moveOf step i .vm) → ⊥)
+
+pub record FaultSource (room : Room) (places : Placement) (step : Step) : Type 0 where
+  pub well-named : named room places 0 step ≡ true
+  pub elsewhere : NamesElsewhere places step
+
+-- 16: neither 15 nor 27, and some destination is banned or outside a fence
 pub record FaultDestination (room : Room) (places : Placement) (step : Step) : Type 0 where
   pub well-named : named room places 0 step ≡ true
+  pub well-sourced : sourced places step ≡ true
   pub forbidden : permitted room step ≡ false
 
--- 17: neither 15 nor 16, and some order has a begin without room
+-- 17: none of 15, 27 and 16, and some order has a begin without room
 pub record FaultFit (room : Room) (places : Placement) (step : Step) : Type 0 where
   pub well-named : named room places 0 step ≡ true
+  pub well-sourced : sourced places step ≡ true
   pub permitted : permitted room step ≡ true
   pub misfit : SomeOrder room places step (λ cs v d. fits room cs v d ≡ false)
 
--- 18: neither 15 nor 16, no order has a begin without room, and some order has a begin beside a mate
+-- 18: none of 15, 27 and 16, no order has a begin without room, and some order has a begin beside a mate
 pub record FaultMate (room : Room) (places : Placement) (step : Step) : Type 0 where
   pub well-named : named room places 0 step ≡ true
+  pub well-sourced : sourced places step ≡ true
   pub permitted : permitted room step ≡ true
   pub fit : SomeOrder room places step (λ cs v d. fits room cs v d ≡ false) → ⊥
   pub mate : SomeOrder room places step (λ cs v d. meetsMate room cs v d ≡ true)
 
--- step n, counted from 0, is the first at fault, and P is its fault: the steps before it are sound, and P holds of it at the placement from
--- which it starts in every run
+-- step n, counted from 0, is the first at fault, and P is its fault: the steps before it are sound and name no wrong source, and P holds of
+-- it at the placement from which it starts in every run
 pub record FirstAtFault (room : Room) (places : Placement) (steps : List Step) (n : ℕ) (P : Placement → Step → Type 0) : Type 0 where
   pub there : n < length steps
   pub earlier : soundAll room places (take n steps) ≡ true
+  pub earlier-sourced : sourcedAll places (take n steps) ≡ true
   pub fault : (start : Placement) → Run room places (take n steps) start → P start (getD steps n [])
 
 -- 19: no step is at fault, every run obeys the rules at each begin, and every run ends with some VM off its target
 pub record EndsAway (room : Room) (places : Placement) (steps : List Step) : Type 0 where
   pub sound : soundAll room places steps ≡ true
+  pub well-sourced : sourcedAll places steps ≡ true
   pub obeys : (last : Placement) (run : Run room places steps last) → EachBeginOfRun (Obeys room) run
   pub away : (last : Placement) → Run room places steps last →
       (v : ℕ) × (v < length (room .vms)) × (placeOf last v ≡ placeOf (targetOf room) v → ⊥)
+
+-- ---- what holds of the sources that are named
+
+-- the operators' point, in every run. Each move of each step names a source, and it is the very node that its VM is on when the step starts
+pub record NamesPlaces (room : Room) (places : Placement) (steps : List Step) : Type 0 where
+  pub each : (n i : ℕ) → n < length steps → i < length (getD steps n []) → (start : Placement) → Run room places (take n steps) start →
+      moveOf (getD steps n []) i .source ≡ Named (placeOf start (moveOf (getD steps n []) i .vm))
+
+-- nothing else looks at a source: whichever the moves name, a step starts the same, so that it has the same orders, leaves the same placement,
+-- is as well named (15) and as sound; the steps have the same runs, and cost the same
+pub record SourcesUnread (room : Room) : Type 0 where
+  pub moments : (names : Move → Source) (places : Placement) (step : Step) → firstMoment room places (withSources names step) ≡ firstMoment room places step
+  pub left : (names : Move → Source) (places : Placement) (step : Step) → after places (withSources names step) ≡ after places step
+  pub well-named : (names : Move → Source) (places : Placement) (step : Step) → named room places 0 (withSources names step) ≡ named room places 0 step
+  pub sound : (names : Move → Source) (places : Placement) (step : Step) → soundStep room places (withSources names step) ≡ soundStep room places step
+  pub runs : (names : Move → Source) (places last : Placement) (steps : List Step) → Run room places (map (withSources names) steps) last ↔ Run room places steps last
+  pub cost : (names : Move → Source) (steps : List Step) → costOf room (map (withSources names) steps) ≡ costOf room steps
 
 -- ---- what holds at every moment of every run
 
@@ -137,14 +174,18 @@ pub record Checked (cluster plan : List ℕ) (r : ℕ) : Type 0 where
   -- it is the verdict's, and tells it
   pub is : r ≡ packed (verdictOf cluster plan)
   pub told : TellsVerdict r (verdictOf cluster plan)
-  -- with none of the faults 1 to 9 and 11 to 15: accepted exactly if every run obeys the rules and ends on the target
+  -- with none of the faults 1 to 9, 11 to 15 and 27: accepted exactly if every run obeys the rules and ends on the target
   pub exact : Shaped cluster plan → namedAll (roomOf cluster) (currentOf (roomOf cluster)) (stepsOf plan) ≡ true →
+      sourcedAll (currentOf (roomOf cluster)) (stepsOf plan) ≡ true →
       SaysGood r ↔ EveryRun (roomOf cluster) (currentOf (roomOf cluster)) (stepsOf plan)
   -- and nothing else is accepted
-  pub only : SaysGood r → Shaped cluster plan × (namedAll (roomOf cluster) (currentOf (roomOf cluster)) (stepsOf plan) ≡ true)
-  -- 15 to 19 mean what they say
+  pub only : SaysGood r → Shaped cluster plan × (namedAll (roomOf cluster) (currentOf (roomOf cluster)) (stepsOf plan) ≡ true) ×
+      (sourcedAll (currentOf (roomOf cluster)) (stepsOf plan) ≡ true)
+  -- 15 to 19 and 27 mean what they say
   pub misnamed : (n : ℕ) → SaysRefused r 15 (suc n) ↔
       (Shaped cluster plan × FirstAtFault (roomOf cluster) (currentOf (roomOf cluster)) (stepsOf plan) n (FaultNames (roomOf cluster)))
+  pub elsewhere : (n : ℕ) → SaysRefused r 27 (suc n) ↔
+      (Shaped cluster plan × FirstAtFault (roomOf cluster) (currentOf (roomOf cluster)) (stepsOf plan) n (FaultSource (roomOf cluster)))
   pub forbidden : (n : ℕ) → SaysRefused r 16 (suc n) ↔
       (Shaped cluster plan × FirstAtFault (roomOf cluster) (currentOf (roomOf cluster)) (stepsOf plan) n (FaultDestination (roomOf cluster)))
   pub misfit : (n : ℕ) → SaysRefused r 17 (suc n) ↔
@@ -158,7 +199,12 @@ pub record Checked (cluster plan : List ℕ) (r : ℕ) : Type 0 where
   -- no run of it takes a node past what it has, or brings mates together
   pub auditor : SaysGood r → StaysWithin (roomOf cluster) (currentOf (roomOf cluster)) (stepsOf plan)
   pub apart : SaysGood r → StaysApart (roomOf cluster) (currentOf (roomOf cluster)) (stepsOf plan)
-  -- 0 bytes get the verdict that a header with 0 steps gets (02, Job 8)
-  pub empty : plan ≡ [] → verdictOf cluster plan ≡ verdictOf cluster (headerBytes 7 0)
+  -- an accepted plan of version 2 names for every move the node that its VM is on when the step starts; nothing but 27 looks at a source; a
+  -- plan that is not of version 2 has no step with 27 (02, Job 7)
+  pub sources : SaysGood r → versionOf plan ≡ 2 → NamesPlaces (roomOf cluster) (currentOf (roomOf cluster)) (stepsOf plan)
+  pub unread : SourcesUnread (roomOf cluster)
+  pub unasked : (versionOf plan ≡ 2 → ⊥) → (sourcedAll (currentOf (roomOf cluster)) (stepsOf plan) ≡ true) × ((n : ℕ) → SaysRefused r 27 n → ⊥)
+  -- 0 bytes get the verdict that a header with 0 steps gets, of either version (02, Jobs 7 and 8)
+  pub empty : plan ≡ [] → (version : ℕ) → (version ≡ 1) ⊎ (version ≡ 2) → verdictOf cluster plan ≡ verdictOf cluster (headerBytes version 7 0)
   -- sound, wherever it is said here, is sound in every order
   pub sound : (places : Placement) (step : Step) → (soundStep (roomOf cluster) places step ≡ true) ↔ SoundInOrders (roomOf cluster) places step

@@ -1,4 +1,4 @@
--- Which destinations are allowed, what the target owes, and the faults of a step (01, "Numbers of the refusals", 8, 9, 15 to 18).
+-- Which destinations are allowed, what the target owes, and the faults of a step (01, "Numbers of the refusals", 8, 9, 15 to 18; 02, Job 7, 27).
 use Prim.Native.Nat.{ℕ, zero, suc}
 use mathlib.Core.Bool.{Bool, true, false, not, _&&_, _||_}
 use mathlib.Core.List.{List, [], _∷_}
@@ -7,6 +7,8 @@ use lib.Dec.{ltb, leb, eqb}
 use Rattle.records.specs.Base.{pick, all}
 use Rattle.records.specs.Room.{Constraint, ban, fence, spread, latency, has, vmsOf, Room, nodeOf, vmOf}
 use Rattle.records.specs.Plan.{Move, Step}
+use Rattle.records.specs.declared.plan.Source.{Source}
+use Rattle.records.specs.declared.plan.Source.the-variants.{Unnamed, Named}
 use Rattle.rules.specs.Moments.{Placement, placeOf, targetOf, Moment, within, tallyAt, firstMoment, atRest, allRunning}
 use Rattle.rules.specs.Orders.{some, meetsMate}
 use Rattle.rules.specs.declared.faults.TargetFault.{TargetFault}
@@ -14,9 +16,9 @@ use Rattle.rules.specs.declared.faults.TargetFault.the-variants.{Overful
 use Rattle.rules.specs.declared.faults.TargetCheck.{TargetCheck}
 use Rattle.rules.specs.declared.faults.TargetCheck.the-variants.{Good, Bad}
 use Rattle.rules.specs.declared.faults.StepFault.{StepFault}
-use Rattle.rules.specs.declared.faults.StepFault.the-variants.{Misnamed, Forbidden, Misfit, Mate}
+use Rattle.rules.specs.declared.faults.StepFault.the-variants.{Misnamed, Elsewhere, Forbidden, Misfit, Mate}
 use Rattle.rules.specs.declared.faults.StepCheck.{StepCheck}
-use Rattle.rules.specs.declared.faults.StepCheck.the-variants.{Sound, Faulty}
+use Rattle.rules.specs.declared.faults.StepCheck.the-variants.{Clear, Faulty}
 
 -- ---- destinations
 
@@ -63,12 +65,20 @@ targetCheck room =
 
 -- ---- a step
 
--- 15: each VM is there and above the one before it (`least` is the least that may come), each destination is there and not its source
+-- 15: each VM is there and above the one before it (`least` is the least that may come), each destination is there and not its VM's place
 unfoldable pub named : Room → Placement → ℕ → Step → Bool
 named room places least [] = true
 named room places least (move ∷ moves) =
     (leb least (move .vm) && ltb (move .vm) (length (room .vms))) &&
     ((ltb (move .to) (length (room .nodes)) && not (eqb (move .to) (placeOf places (move .vm)))) && named room places (suc (move .vm)) moves)
+
+-- 27: every source that is named is its VM's place at the step's start
+unfoldable pub isPlace : Source → ℕ → Bool
+isPlace Unnamed place = true
+isPlace (Named node) place = eqb node place
+
+unfoldable pub sourced : Placement → Step → Bool
+sourced places step = all (λ move. isPlace (move .source) (placeOf places (move .vm))) step
 
 -- 16: every destination is one that its VM may go to
 unfoldable pub permitted : Room → Step → Bool
@@ -89,12 +99,13 @@ unmet room places step =
 unfoldable pub stepCheck : Room → Placement → Step → StepCheck
 stepCheck room places step =
     pick (not (named room places 0 step)) (Faulty Misnamed)
+    (pick (not (sourced places step)) (Faulty Elsewhere)
     (pick (not (permitted room step)) (Faulty Forbidden)
     (pick (not (fitting room places step)) (Faulty Misfit)
     (pick (not (unmet room places step)) (Faulty Mate)
-    Sound)))
+    Clear))))
 
--- a step is sound: it passes the four tests. (Promises has the same over every order of the step, and the two agree: Laws.Runs,
--- sound-orders.)
+-- a step is sound: it has none of the faults 15 to 18. A source that is named wrongly does not make it unsound. (Promises has the same over
+-- every order of the step, and the two agree: Laws.Runs, sound-orders.)
 unfoldable pub soundStep : Room → Placement → Step → Bool
 soundStep room places step = named room places 0 step && (permitted room step && (fitting room places step && unmet room places step))

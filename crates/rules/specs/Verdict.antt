@@ -39,7 +39,7 @@ onPlan PlanCheck.Whole rest = rest
 onPlan (PlanCheck.Damaged fault) rest = Refused (Plan fault)
 
 unfoldable pub onStep : StepCheck → ℕ → Verdict → Verdict
-onStep StepCheck.Sound number rest = rest
+onStep StepCheck.Clear number rest = rest
 onStep (StepCheck.Faulty fault) number rest = Refused (AtStep fault number)
 
 -- the steps one by one, `number` being that of the next: the first fault found, then 19, else `good`
@@ -68,6 +68,7 @@ targetNumber TargetFault.Broken = 9
 
 abbrev pub stepNumber : StepFault → ℕ
 stepNumber StepFault.Misnamed = 15
+stepNumber StepFault.Elsewhere = 27
 stepNumber StepFault.Forbidden = 16
 stepNumber StepFault.Misfit = 17
 stepNumber StepFault.Mate = 18

@@ -17,13 +17,15 @@ pub enum TargetCheck {
 
 pub enum StepFault {
     Misnamed,
+    Elsewhere,
     Forbidden,
     Misfit,
     Mate,
 }
 
+// Clear: none of the faults, 27 included.
 pub enum StepCheck {
-    Sound,
+    Clear,
     Faulty(StepFault),
 }
 
@@ -55,6 +57,7 @@ fn step_number(f: StepFault) -> u64
 {
     match f {
         StepFault::Misnamed => 15,
+        StepFault::Elsewhere => 27,
         StepFault::Forbidden => 16,
         StepFault::Misfit => 17,
         StepFault::Mate => 18,

@@ -1,4 +1,4 @@
-// A step against a placement: refusals 15 to 18.
+// A step against a placement: refusals 15, 27, 16, 17 and 18.
 use crate::arrays::AllowTable;
 use crate::arrays::Destinations;
 use crate::arrays::NODES;
@@ -13,16 +13,17 @@ use crate::spread::mates_unmet;
 use crate::tally::Tally;
 use crate::tally::need_of;
 use crate::tally::within_node;
+use records::Source;
 ghost use mathlib.Core.Path.{_≡_};
 ghost use Prim.Native.Nat.{_≤_};
 ghost use lib.ListN.{length};
 ghost use Rattle.records.specs.Room.{roomOf, clusterCheck};
 ghost use Rattle.records.specs.Plan.{stepAt, stepEnd};
 ghost use Rattle.records.specs.declared.faults.ClusterCheck.{ClusterCheck};
-ghost use Rattle.rules.specs.Rules.{named, permitted, stepCheck};
+ghost use Rattle.rules.specs.Rules.{named, isPlace, sourced, permitted, stepCheck};
 ghost use Rattle.rules.specs.Inner.{Held, Placed, runningCheck, held, Ready, Loads, Aimed, Allows, fitsIn};
 
-// 15: whether each VM and destination is there, the VMs rise, and no destination is its source.
+// 15: whether each VM and destination is there, the VMs rise, and no destination is its VM's place.
 pub fn well_named(cluster: &[u8], plan: &[u8], at: usize, places: &Placement) -> bool
     requires { ⌜ (clusterCheck (now cluster) ≡ ClusterCheck.Whole) × (stepEnd (now plan) at ≤ length (now plan)) ⌝ }
     ensures { λ r. ⌜ r ≡ named (roomOf (now (cluster .entry))) (held (now (cluster .entry)) (now (places .entry))) 0 (stepAt (now (plan .entry)) at) ⌝ }
@@ -44,11 +45,39 @@ pub fn well_named(cluster: &[u8], plan: &[u8], at: usize, places: &Placement) ->
         if nodes <= d {
             return false;
         }
-        let source = node_at(places, v);
-        if d == source {
+        let place = node_at(places, v);
+        if d == place {
             return false;
         }
         least = v + 1;
+        i += 1;
+    }
+    true
+}
+
+// Whether a source that is named is a place.
+fn is_place(source: Source, place: u8) -> bool
+    ensures { λ r. ⌜ r ≡ isPlace source place ⌝ }
+{
+    match source {
+        Source::Unnamed => true,
+        Source::Named(node) => node == place,
+    }
+}
+
+// 27: whether each source that is named is its VM's place.
+pub fn well_sourced(plan: &[u8], at: usize, places: &Placement) -> bool
+    requires { ⌜ stepEnd (now plan) at ≤ length (now plan) ⌝ }
+    ensures { λ r. ⌜ r ≡ sourced (now (places .entry)) (stepAt (now (plan .entry)) at) ⌝ }
+{
+    let n = records::move_count(plan, at);
+    let mut i: usize = 0;
+    while i < n {
+        let v = records::move_vm(plan, at, i) as usize;
+        let source = records::move_source(plan, at, i);
+        if !is_place(source, places[v]) {
+            return false;
+        }
         i += 1;
     }
     true
@@ -125,7 +154,7 @@ fn running_check(cluster: &[u8], plan: &[u8], at: usize, places: &Placement) -> 
     if !mates_unmet(cluster, places, &dests) {
         return StepCheck::Faulty(StepFault::Mate);
     }
-    StepCheck::Sound
+    StepCheck::Clear
 }
 
 // The first fault of the step at a place of the plan, from a placement copied for it.
@@ -141,6 +170,9 @@ pub fn step_check(
 {
     if !well_named(cluster, plan, at, &places) {
         return StepCheck::Faulty(StepFault::Misnamed);
+    }
+    if !well_sourced(plan, at, &places) {
+        return StepCheck::Faulty(StepFault::Elsewhere);
     }
     if !moves_allowed(cluster, plan, at, table) {
         return StepCheck::Faulty(StepFault::Forbidden);

@@ -5,6 +5,7 @@ use libc::STDOUT_FILENO;
 use rules::Fault;
 use rules::Verdict;
 ghost use Prim.Native.Nat.{_<_};
+ghost use Rattle.records.specs.Plan.{longestPlan};
 ghost use Rattle.verdict.specs.Long.{Alike};
 
 // A cluster record has at most 65,535 bytes: one more is too long, whatever follows it. Of a plan file the size matters up to what a
@@ -34,10 +35,10 @@ fn judged(cluster: &[u8], plan: &[u8]) {
     io::write_all(STDOUT_FILENO, b"\n");
 }
 
-// What is lent in place of a plan file of so many bytes, more than the buffer holds. It has the same fault: 12, else 13 unless the file
-// states the length that it has, else 14, since no plan is so long.
+// What is lent in place of a plan file of so many bytes, more than a plan can have. It has the same fault: 12, else 13 unless the file
+// states the length that it has, else 14.
 fn stand_in(plan: &[u8; 65536], size: usize) -> [u8; 8]
-    requires { ⌜ 65536 < size ⌝ }
+    requires { ⌜ longestPlan < size ⌝ }
     ensures { λ r. ⌜ Alike (now (plan .entry)) size r ⌝ }
 {
     let version = plan[0];
@@ -52,7 +53,7 @@ fn stand_in(plan: &[u8; 65536], size: usize) -> [u8; 8]
 // The line of the verdict on files of so many bytes, whose first are in the buffers.
 fn judged_files(cluster: &[u8; 65536], n: usize, plan: &[u8; 65536], m: usize) {
     let record = files::front(cluster, n);
-    if m <= 65536 {
+    if m <= records::LONGEST_PLAN {
         judged(record, files::front(plan, m));
     } else {
         let short = stand_in(plan, m);

@@ -19,8 +19,12 @@ pub fn check(cluster: &[u8], plan: &[u8]) -> u64 {
 
 fn verdict(cluster: &[u8], plan: &[u8]) -> Result<u64, Fault> {
     let room = read_room(cluster).map_err(|number| (number, 0))?;
-    let steps = plan_shape(plan).ok_or_else(|| (shape_fault(plan), 0))?;
-    run(&room, steps)
+    let shape = |number: u8| (number, 0);
+    match plan.first() {
+        None => run::<2>(&room, plan),
+        Some(2) => run::<3>(&room, steps_of::<3>(plan).map_err(shape)?),
+        Some(_) => run::<2>(&room, steps_of::<2>(plan).map_err(shape)?),
+    }
 }
 
 // ---------------------------------------------------------------- the cluster record
@@ -280,19 +284,24 @@ impl Sums {
 
 // ---------------------------------------------------------------- the plan record
 
-/// The steps' bytes, if the plan has none of the faults 11 to 14. 0 bytes are a plan of no steps.
-fn plan_shape(plan: &[u8]) -> Option<&[u8]> {
-    if plan.is_empty() {
-        return Some(plan);
+// A move has WIDTH bytes: the VM first, the destination last, and in version 2 the source between.
+
+/// The bytes of a plan's steps; the error is the fault of its shape, 11 to 14.
+fn steps_of<const WIDTH: usize>(plan: &[u8]) -> Result<&[u8], u8> {
+    if plan.len() < 7 {
+        return Err(11);
     }
-    if plan.len() < 7 || plan[0] != 1 || stated_length(plan) != plan.len() {
-        return None;
+    if !(1..=2).contains(&plan[0]) {
+        return Err(12);
     }
-    let steps = be16(&plan[5..]);
-    (steps <= 512 && steps_fill(&plan[7..], steps)).then(|| &plan[7..])
+    if stated_length(plan) != plan.len() {
+        return Err(13);
+    }
+    let (count, steps) = (be16(&plan[5..]), &plan[7..]);
+    (count <= 512 && steps_fill::<WIDTH>(steps, count)).then_some(steps).ok_or(14)
 }
 
-fn steps_fill(mut rest: &[u8], steps: usize) -> bool {
+fn steps_fill<const WIDTH: usize>(mut rest: &[u8], steps: usize) -> bool {
     let mut all = 0;
     for _ in 0..steps {
         if rest.len() < 2 {
@@ -300,22 +309,12 @@ fn steps_fill(mut rest: &[u8], steps: usize) -> bool {
         }
         let moves = be16(rest);
         all += moves;
-        if moves == 0 || moves > 256 || all > 1_024 || rest.len() < 2 + 2 * moves {
+        if moves == 0 || moves > 256 || all > 1_024 || rest.len() < 2 + WIDTH * moves {
             return false;
         }
-        rest = &rest[2 + 2 * moves..];
+        rest = &rest[2 + WIDTH * moves..];
     }
     rest.is_empty()
-}
-
-/// Which fault of shape a plan has that has one.
-fn shape_fault(plan: &[u8]) -> u8 {
-    match plan {
-        _ if plan.len() < 7 => 11,
-        _ if plan[0] != 1 => 12,
-        _ if stated_length(plan) != plan.len() => 13,
-        _ => 14,
-    }
 }
 
 // ---------------------------------------------------------------- the steps
@@ -336,23 +335,23 @@ fn start(room: &Room) -> Here {
 }
 
 /// Goes through the steps; the cost, or the first fault.
-fn run(room: &Room, mut rest: &[u8]) -> Result<u64, Fault> {
+fn run<const WIDTH: usize>(room: &Room, mut rest: &[u8]) -> Result<u64, Fault> {
     let mut here = start(room);
     let (mut cost, mut earlier, mut step) = (0, 0, 0);
     while !rest.is_empty() {
-        let (moves, behind) = rest[2..].split_at(2 * be16(rest));
+        let (moves, behind) = rest[2..].split_at(WIDTH * be16(rest));
         rest = behind;
         step += 1;
-        let number = step_fault(room, &mut here, moves);
+        let number = step_fault::<WIDTH>(room, &mut here, moves);
         if number != 0 {
             return Err((number, step));
         }
         let mut largest = 0;
-        for m in moves.chunks_exact(2) {
+        for m in moves.chunks_exact(WIDTH) {
             let memory = room.memory[usize::from(m[0])];
             cost += memory + earlier;
             largest = largest.max(memory);
-            end(room, &mut here, m[0], m[1]);
+            end(room, &mut here, m[0], m[WIDTH - 1]);
         }
         earlier += largest;
     }
@@ -371,11 +370,14 @@ fn end(room: &Room, here: &mut Here, vm: u8, to: u8) {
 
 /// The fault of a step, or 0. Counts the arrivals on their destinations; those who leave are
 /// still on their sources.
-fn step_fault(room: &Room, here: &mut Here, moves: &[u8]) -> u8 {
-    if !well_named(room, &here.place, moves) {
+fn step_fault<const WIDTH: usize>(room: &Room, here: &mut Here, moves: &[u8]) -> u8 {
+    if !well_named::<WIDTH>(room, &here.place, moves) {
         return 15;
     }
-    let each = || moves.chunks_exact(2).map(|m| (m[0], m[1]));
+    if !sources_right::<WIDTH>(&here.place, moves) {
+        return 27;
+    }
+    let each = || moves.chunks_exact(WIDTH).map(|m| (m[0], m[WIDTH - 1]));
     if !each().all(|(vm, to)| room.open[usize::from(vm)] >> to & 1 == 1) {
         return 16;
     }
@@ -389,16 +391,21 @@ fn step_fault(room: &Room, here: &mut Here, moves: &[u8]) -> u8 {
     0
 }
 
-fn well_named(room: &Room, place: &[u8; 256], moves: &[u8]) -> bool {
+fn well_named<const WIDTH: usize>(room: &Room, place: &[u8; 256], moves: &[u8]) -> bool {
     let mut least = 0;
-    for m in moves.chunks_exact(2) {
-        let (vm, to) = (usize::from(m[0]), usize::from(m[1]));
-        if vm < least || vm >= room.v || to >= room.n || place[vm] == m[1] {
+    for m in moves.chunks_exact(WIDTH) {
+        let (vm, to) = (usize::from(m[0]), m[WIDTH - 1]);
+        if vm < least || vm >= room.v || usize::from(to) >= room.n || place[vm] == to {
             return false;
         }
         least = vm + 1;
     }
     true
+}
+
+/// Whether every source that is named is its VM's place.
+fn sources_right<const WIDTH: usize>(place: &[u8; 256], moves: &[u8]) -> bool {
+    WIDTH == 2 || moves.chunks_exact(WIDTH).all(|m| m[1] == place[usize::from(m[0])])
 }
 
 /// Whether a VM that arrives has a mate among those on the node; then it is one of them too.

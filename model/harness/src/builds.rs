@@ -5,7 +5,7 @@ use crate::report::{Counts, Report, Stream, BLOCKED, COST, STRAY};
 use crate::{build, build_lent, check, Lent};
 use kobdrieft_model::gen::Rng;
 use kobdrieft_model::planner::BUFFER;
-use kobdrieft_model::{self as model, parse_cluster, parse_plan};
+use kobdrieft_model::{self as model, bare, parse_cluster, parse_plan, plan_bytes};
 
 /// The outcomes of `build`, and what the plans of generated inputs were like.
 #[derive(Default)]
@@ -51,8 +51,8 @@ impl Builds {
 /// How many moves of a record go elsewhere than to their VM's target.
 fn pivots(cluster: &[u8], record: &[u8]) -> usize {
     let room = parse_cluster(cluster).expect("the model took it");
-    let steps = parse_plan(record).expect("the model wrote it");
-    steps.iter().flatten().filter(|m| m.to != room.vms[m.vm].target).count()
+    let plan = parse_plan(record).expect("the model wrote it");
+    plan.steps.iter().flatten().filter(|m| m.to != room.vms[m.vm].target).count()
 }
 
 /// The buffer's length for the next comparison. Every length below the least one that is taken
@@ -90,16 +90,19 @@ impl Report {
     }
 
     /// The library's own checker must take the plan it built at its cost, and refuse the steps
-    /// of blocked with 19.
+    /// of blocked with 19; and the same steps without their sources.
     fn check_built(&mut self, cluster: &[u8], built: &Built) {
         let expected =
             if built.answer >> 62 == 0 { built.answer & COST } else { 2 << 62 | 19 << 16 };
-        let result = check(cluster, built.record());
-        if self.judge(result == expected) {
-            println!("check of a built plan differs, answer {}", answer_words(built.answer));
-            println!("cluster {}\nplan {}", hex(cluster), hex(built.record()));
-            println!("library {}", verdict_words(result));
-            println!("wanted  {}", verdict_words(expected));
+        let without = parse_plan(built.record()).map(|plan| plan_bytes(&bare(&plan.steps)));
+        for record in [Some(built.record()), without.ok().as_deref()].into_iter().flatten() {
+            let result = check(cluster, record);
+            if self.judge(result == expected) {
+                println!("check of a built plan differs, answer {}", answer_words(built.answer));
+                println!("cluster {}\nplan {}", hex(cluster), hex(record));
+                println!("library {}", verdict_words(result));
+                println!("wanted  {}", verdict_words(expected));
+            }
         }
     }
 }

@@ -1,20 +1,18 @@
-//! Plan files of 0 bytes: what came of those among the inputs; and pairs, where one cluster is
-//! checked beside no plan bytes and beside the header of a plan of no steps.
+//! Plan files of 0 bytes: what came of those among the inputs; and clusters that are checked beside
+//! no plan bytes and beside the header of a plan of no steps in either version.
 
 use crate::check;
-use crate::report::{check_watched, hex, missing, outcome, print_row, verdict_words};
-use crate::report::{Counts, Report, Stream, STRAY};
-use kobdrieft_model::{self as model, plan_bytes};
-use std::ops::RangeInclusive;
+use crate::report::{check_watched, hex, missing, outcome, print_kinds, verdict_words};
+use crate::report::{Counts, Kind, Report, Stream, STRAY};
+use kobdrieft_model::{self as model, edges::header, Version};
 
-/// What can come of a plan of no steps: the outcomes in three kinds.
-const KINDS: [(&str, RangeInclusive<usize>); 3] =
-    [("accepted", 0..=0), ("1 to 9", 1..=9), ("19", 19..=19)];
+/// What can come of a plan of no steps.
+const KINDS: [Kind; 3] = [("accepted", 0..=0), ("1 to 9", 1..=9), ("19", 19..=19)];
 
 #[derive(Default)]
 pub(crate) struct Empties {
     files: Counts,
-    pairs: Counts,
+    headers: Counts,
 }
 
 impl Empties {
@@ -27,51 +25,44 @@ impl Empties {
     pub(crate) fn missing(&self) -> Vec<String> {
         let wanted = || KINDS.into_iter().flat_map(|(_, outcomes)| outcomes);
         let files = missing(&self.files, "no plan bytes,", wanted());
-        [files, missing(&self.pairs, "pair", wanted())].concat()
+        [files, missing(&self.headers, "headers,", wanted())].concat()
     }
 
     pub(crate) fn print(&self) {
-        print_kinds("no bytes", &self.files);
-        print_kinds("pair", &self.pairs);
-        let pairs: u64 = self.pairs.iter().flatten().sum();
-        println!("pairs of no plan bytes and a header of 0 steps compared: {pairs}");
-    }
-}
-
-fn print_kinds(name: &str, counts: &Counts) {
-    for (kind, outcomes) in KINDS {
-        let by_stream = [0, 1, 2, 3].map(|stream| {
-            let counts = counts[outcomes.clone()].iter().map(|row| row[stream]);
-            counts.sum::<u64>()
-        });
-        print_row(&format!("{name} {kind}"), by_stream);
+        print_kinds("no bytes", &KINDS, &self.files);
+        print_kinds("headers", &KINDS, &self.headers);
+        let clusters: u64 = self.headers.iter().flatten().sum();
+        println!("clusters with no plan bytes held against both headers of 0 steps: {clusters}");
     }
 }
 
 impl Report {
     /// Compares `check` on a cluster, whole or damaged, beside no plan bytes; then the library's
-    /// two verdicts on no plan bytes and on the header of a plan of no steps, which must be equal.
-    pub fn pair(&mut self, stream: Stream, cluster: &[u8]) {
-        let header = plan_bytes(&[]);
+    /// verdict on no plan bytes with those on the headers of a plan of no steps, one of each
+    /// version, which must be equal to it.
+    pub fn no_steps(&mut self, stream: Stream, cluster: &[u8]) {
         let expected = model::pack_verdict(model::check(cluster, &[]));
-        self.empties.pairs[outcome(expected)][stream as usize] += 1;
+        self.empties.headers[outcome(expected)][stream as usize] += 1;
         let (mut no_bytes, kept) = check_watched(cluster, &[]);
         if kept && no_bytes == expected {
             no_bytes = check(cluster, &[]);
         }
-        let with_header = check(cluster, &header);
-        let differs = |what: &str| {
-            println!("{what}\ncluster {}\nheader {}", hex(cluster), hex(&header));
-            println!("library, no plan bytes {}", verdict_words(no_bytes));
-            println!("library, the header    {}", verdict_words(with_header));
-            println!("model, no plan bytes   {}", verdict_words(expected));
-        };
         if self.judge(kept && no_bytes == expected) {
             let stray = if kept { "" } else { STRAY };
-            differs(&format!("check on no plan bytes differs{stray}"));
+            println!("check on no plan bytes differs{stray}\ncluster {}", hex(cluster));
+            println!("library {}", verdict_words(no_bytes));
+            println!("model   {}", verdict_words(expected));
         }
-        if self.judge(no_bytes == with_header) {
-            differs("check tells no plan bytes from the header of a plan of no steps");
+        for version in Version::ALL {
+            let header = header(version);
+            let with_header = check(cluster, &header);
+            if self.judge(no_bytes == with_header) {
+                println!("check tells no plan bytes from the header of a plan of no steps");
+                println!("cluster {}\nheader {}", hex(cluster), hex(&header));
+                println!("no plan bytes {}", verdict_words(no_bytes));
+                println!("the header    {}", verdict_words(with_header));
+                println!("model         {}", verdict_words(expected));
+            }
         }
     }
 }

@@ -6,16 +6,21 @@
 
 use kobdrieft_model::edges::{self, cluster_a};
 use kobdrieft_model::gen::{MOST_CPU, MOST_MEMORY};
-use kobdrieft_model::{cluster_bytes, plan_bytes, Constraint, Move, Node, Room, Step, Vm};
+use kobdrieft_model::{bare, cluster_bytes, named, plan_bytes};
+use kobdrieft_model::{Constraint, Move, Node, Plan, Room, Step, Vm};
 
-/// One input, with the outcome it is made for: `None` for accepted, else number and step.
+/// What an input is made for: `None` for accepted, else number and step.
+pub type Outcome = Option<(u8, u16)>;
+
+/// One input: the same steps as a plan of version 1 and as one of version 2, each with the outcome
+/// it is made for.
 pub struct Input {
     pub name: &'static str,
     pub room: Room,
     pub steps: Vec<Step>,
     pub cluster: Vec<u8>,
-    pub plan: Vec<u8>,
-    pub outcome: Option<(u8, u16)>,
+    pub plans: [Vec<u8>; 2],
+    pub outcomes: [Outcome; 2],
 }
 
 pub(crate) const NODES: usize = 64;
@@ -29,6 +34,7 @@ pub fn all() -> Vec<Input> {
         hops(),
         hops_not_home(),
         hops_too_full(),
+        hops_wrong_source(),
         thin_hops(),
         spreads(),
         spreads_meeting(),
@@ -37,24 +43,38 @@ pub fn all() -> Vec<Input> {
         mixed(),
         wide_steps(),
         wide_steps_too_full(),
+        wide_steps_wrong_source(),
         wide_spreads(),
         small_room(),
     ]
 }
 
-fn input(
-    name: &'static str,
-    (room, steps): (Room, Vec<Step>),
-    outcome: Option<(u8, u16)>,
-) -> Input {
-    let (cluster, plan) = (cluster_bytes(&room), plan_bytes(&steps));
-    Input { name, room, steps, cluster, plan, outcome }
+/// Steps with one outcome in both versions, as every source that is named is right.
+fn input(name: &'static str, (room, steps): (Room, Vec<Step>), outcome: Outcome) -> Input {
+    let cluster = cluster_bytes(&room);
+    let plans = [bare(&steps), named(&room, &steps)].map(|plan| plan_bytes(&plan));
+    Input { name, room, steps, cluster, plans, outcomes: [outcome; 2] }
+}
+
+/// An accepted input whose last move names its destination as its source: 27 in version 2.
+fn wrong_source(name: &'static str, plan: (Room, Vec<Step>)) -> Input {
+    let accepted = input(name, plan, None);
+    let mut wrong = named(&accepted.room, &accepted.steps);
+    let last = last_move(&mut wrong.steps);
+    last.from = Some(last.to);
+    let Plan { steps, .. } = &wrong;
+    let outcomes = [None, Some((27, steps.len() as u16))];
+    let plans = [bare(steps), wrong].map(|plan| plan_bytes(&plan));
+    Input { plans, outcomes, ..accepted }
+}
+
+fn last_move(steps: &mut [Step]) -> &mut Move {
+    steps.last_mut().and_then(|step| step.last_mut()).expect("a plan with moves")
 }
 
 /// Sends the last move of the last step elsewhere.
 fn ending_at((room, mut steps): (Room, Vec<Step>), to: usize) -> (Room, Vec<Step>) {
-    let last = steps.last_mut().and_then(|step| step.last_mut());
-    last.expect("a plan with moves").to = to;
+    last_move(&mut steps).to = to;
     (room, steps)
 }
 
@@ -78,6 +98,11 @@ pub fn hops_too_full() -> Input {
     input("hops, too full", plan, Some((17, LAST)))
 }
 
+/// The same, but in the last step VM 255 names its home as its source.
+pub fn hops_wrong_source() -> Input {
+    wrong_source("hops, wrong source", hopping(NODES - 1, latencies(CONSTRAINTS)))
+}
+
 /// The same moves with 128 constraints that say nothing, so that the steps are what takes time.
 pub fn thin_hops() -> Input {
     let nothing = vec![Constraint::Spread { vms: vec![] }; CONSTRAINTS];
@@ -92,7 +117,7 @@ fn stop(vm: usize, round: usize, nodes: usize) -> usize {
 /// Two VMs a step, four rounds. Nodes not in use have no capacity.
 fn hopping(nodes: usize, constraints: Vec<Constraint>) -> (Room, Vec<Step>) {
     let room = full_room(nodes, |vm| (stop(vm, 0, nodes), stop(vm, 4, nodes)), constraints);
-    let hop = |vm, round| Move { vm, to: stop(vm, round, nodes) };
+    let hop = |vm, round| Move::bare(vm, stop(vm, round, nodes));
     let step = |i: usize| {
         let (round, vm) = (1 + i / 128, i % 128);
         vec![hop(vm, round), hop(vm + 128, round)]
@@ -145,9 +170,8 @@ pub fn spreads_meeting() -> Input {
 /// Two VMs go to the two free nodes, then home; all VMs do so twice.
 fn away_and_back(constraints: Vec<Constraint>) -> (Room, Vec<Step>) {
     let room = full_room(NODES, |vm| (vm % HOMES, vm % HOMES), constraints);
-    let pair = |a: usize, b: usize, to: [usize; 2]| {
-        vec![Move { vm: a, to: to[0] }, Move { vm: b, to: to[1] }]
-    };
+    let pair =
+        |a: usize, b: usize, to: [usize; 2]| vec![Move::bare(a, to[0]), Move::bare(b, to[1])];
     let both = |i: usize| {
         let (a, b) = (i % 128, i % 128 + 128);
         [pair(a, b, [HOMES, HOMES + 1]), pair(a, b, [a % HOMES, b % HOMES])]
@@ -215,10 +239,15 @@ pub fn wide_steps_too_full() -> Input {
     input("wide steps, too full", ending_at(striding(NODES - 1), NODES - 1), Some((17, 4)))
 }
 
+/// The same on 64 nodes, but in the last step VM 255 names its destination as its source.
+pub fn wide_steps_wrong_source() -> Input {
+    wrong_source("wide steps, wrong source", striding(NODES))
+}
+
 fn striding(nodes: usize) -> (Room, Vec<Step>) {
     let places = |vm| (stop(vm, 0, nodes), stop(vm, 4, nodes));
     let room = full_room(nodes, places, latencies(CONSTRAINTS));
-    let step = |round| (0..VMS).map(|vm| Move { vm, to: stop(vm, round, nodes) }).collect();
+    let step = |round| (0..VMS).map(|vm| Move::bare(vm, stop(vm, round, nodes))).collect();
     (room, (1..=4).map(step).collect())
 }
 
@@ -228,7 +257,7 @@ pub fn wide_spreads() -> Input {
     let home = |vm| (vm % half, vm % half);
     let room = full_room(NODES, home, spread_lists(CONSTRAINTS, half));
     let there =
-        |round: usize| (0..VMS).map(|vm| Move { vm, to: vm % half + half * round }).collect();
+        |round: usize| (0..VMS).map(|vm| Move::bare(vm, vm % half + half * round)).collect();
     let steps = [1, 0, 1, 0].into_iter().map(there).collect();
     input("wide steps, spreads", (room, steps), None)
 }

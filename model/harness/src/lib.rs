@@ -9,6 +9,7 @@ pub mod empties;
 pub mod inputs;
 pub mod report;
 pub mod rooms;
+pub mod sources;
 pub mod streams;
 pub mod timing;
 

@@ -1,9 +1,12 @@
 //! Compares the library with the model, input by input, and keeps count of the outcomes.
 use crate::builds::Builds;
 use crate::empties::Empties;
+use crate::sources::Sources;
 use crate::{check, check_lent, Lent};
 use kobdrieft_model as model;
+use kobdrieft_model::gen::Origin;
 use std::fmt::Display;
+use std::ops::RangeInclusive;
 
 /// Where an input comes from.
 #[derive(Clone, Copy)]
@@ -14,27 +17,34 @@ pub enum Stream {
     Large,
 }
 
-/// How often each outcome came, by stream. Outcome 0 is accepted or plan, 1 to 19 the refusals.
-pub(crate) type Counts = [[u64; 4]; BLOCKED + 1];
+/// How often something came, by stream.
+pub(crate) type Row = [u64; 4];
+
+/// How often each outcome came, by stream. Outcome 0 is accepted or plan, the others are refusals.
+pub(crate) type Counts = [Row; BLOCKED + 1];
 
 /// The outcome behind all numbers.
-pub(crate) const BLOCKED: usize = 20;
+pub(crate) const BLOCKED: usize = 28;
 
 #[derive(Default)]
 pub struct Report {
     pub passed: u64,
     pub failed: u64,
     checks: Counts,
-    longest: usize,
+    sources: Sources,
     pub(crate) empties: Empties,
     pub(crate) builds: Builds,
 }
 
 impl Report {
     /// Compares `check` on one input, lent between guards and then as it is.
-    pub fn check(&mut self, stream: Stream, cluster: &[u8], plan: &[u8]) {
+    pub fn check(&mut self, stream: Stream, cluster: &[u8], plan: &[u8], origin: Option<Origin>) {
         let expected = model::pack_verdict(model::check(cluster, plan));
-        self.count_check(stream, expected, plan);
+        self.checks[outcome(expected)][stream as usize] += 1;
+        self.sources.count(stream, cluster, plan, expected, origin);
+        if plan.is_empty() {
+            self.empties.count_file(stream, expected);
+        }
         let (mut result, kept) = check_watched(cluster, plan);
         if kept && result == expected {
             result = check(cluster, plan);
@@ -44,16 +54,6 @@ impl Report {
             println!("cluster {}\nplan {}", hex(cluster), hex(plan));
             println!("library {}", verdict_words(result));
             println!("model   {}", verdict_words(expected));
-        }
-    }
-
-    fn count_check(&mut self, stream: Stream, verdict: u64, plan: &[u8]) {
-        self.checks[outcome(verdict)][stream as usize] += 1;
-        if plan.is_empty() {
-            self.empties.count_file(stream, verdict);
-        }
-        if outcome(verdict) == 0 && !matches!(stream, Stream::HandSet) {
-            self.longest = self.longest.max(plan.len());
         }
     }
 
@@ -69,9 +69,9 @@ impl Report {
 
     /// Fails once for each outcome that the generated inputs never had.
     pub fn expect_every_outcome(&mut self) {
-        let missing = missing(&self.checks, "check", (0..=9).chain(11..=19));
-        let missing = [missing, self.empties.missing(), self.builds.missing()].concat();
-        for name in missing {
+        let checks = missing(&self.checks, "check", (0..=9).chain(11..=19).chain([27]));
+        let (sources, empties) = (self.sources.missing(), self.empties.missing());
+        for name in [checks, sources, empties, self.builds.missing()].concat() {
             println!("never generated: {name}");
             self.failed += 1;
         }
@@ -81,9 +81,10 @@ impl Report {
     pub fn print(&self) {
         print_row("outcome", ["hand-set", "generated", "puzzles", "large"]);
         print_counts("check", &self.checks);
+        self.sources.print();
         self.empties.print();
         self.builds.print();
-        println!("longest accepted plan generated: {} bytes", self.longest);
+        self.sources.print_origins();
         println!("{} passed, {} failed", self.passed, self.failed);
     }
 }
@@ -110,13 +111,18 @@ pub(crate) fn outcome(packed: u64) -> usize {
     }
 }
 
+/// Whether only hand-set inputs led to something, if any did.
+pub(crate) fn never_generated(row: &Row) -> bool {
+    row.iter().sum::<u64>() == row[Stream::HandSet as usize]
+}
+
 /// The outcomes among these that only hand-set inputs had, if any.
 pub(crate) fn missing(
     counts: &Counts,
     call: &str,
     wanted: impl Iterator<Item = usize>,
 ) -> Vec<String> {
-    let never = |&i: &usize| counts[i].iter().sum::<u64>() == counts[i][Stream::HandSet as usize];
+    let never = |&i: &usize| never_generated(&counts[i]);
     wanted.filter(never).map(|i| format!("{call} {}", outcome_name(call, i))).collect()
 }
 
@@ -140,9 +146,22 @@ pub(crate) fn print_counts(call: &str, counts: &Counts) {
     }
 }
 
+/// Outcomes that are counted together, under a name.
+pub(crate) type Kind = (&'static str, RangeInclusive<usize>);
+
+pub(crate) fn print_kinds(name: &str, kinds: &[Kind], counts: &Counts) {
+    for (kind, outcomes) in kinds {
+        let by_stream = [0, 1, 2, 3].map(|stream| {
+            let counts = counts[outcomes.clone()].iter().map(|row| row[stream]);
+            counts.sum::<u64>()
+        });
+        print_row(&format!("{name} {kind}"), by_stream);
+    }
+}
+
 pub(crate) fn print_row<T: Display>(name: &str, columns: [T; 4]) {
-    let [hand_set, generated, puzzles, large] = columns;
-    println!("{name:<18}{hand_set:>10}{generated:>12}{puzzles:>10}{large:>10}");
+    let [first, second, third, fourth] = columns;
+    println!("{name:<30}{first:>10}{second:>12}{third:>10}{fourth:>10}");
 }
 
 pub(crate) fn hex(bytes: &[u8]) -> String {

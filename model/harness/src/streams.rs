@@ -1,15 +1,15 @@
-//! Larger rooms with plans of many steps: the planner's own, and those spoilt late; and with no
-//! plan bytes.
+//! Larger rooms with plans of many steps: the planner's own in both versions, those spoilt late,
+//! in their moves or their sources, and plans of other rooms; and with no plan bytes.
 
-use kobdrieft_model::gen::{self, Rng, Size};
+use kobdrieft_model::gen::{self, Origin, Rng, Size};
 use kobdrieft_model::planner::make_steps;
 use kobdrieft_model::rules::{step_fault, Book, Placement};
-use kobdrieft_model::{cluster_bytes, plan_bytes, Move, Room, Step};
+use kobdrieft_model::{bare, cluster_bytes, named, plan_bytes, Move, Plan, Room, Step, Version};
 
-/// A cluster with several plans for it.
+/// A cluster with several plans for it, and the origin of each that has bytes.
 pub struct Large {
     pub cluster: Vec<u8>,
-    pub plans: Vec<Vec<u8>>,
+    pub plans: Vec<(Vec<u8>, Option<Origin>)>,
 }
 
 /// How many spoilt plans come beside the sound one.
@@ -17,15 +17,18 @@ const SPOILT: usize = 8;
 
 pub fn large(rng: &mut Rng) -> Large {
     let room = large_room(rng);
-    let mut steps = make_steps(&room).0;
+    let (mut steps, mut origin) = (make_steps(&room).0, Origin::Planner);
     if rng.chance(50) {
         lengthen(rng, &room, &mut steps);
+        origin = Origin::Spoilt;
     }
-    let mut plans = vec![plan_bytes(&steps)];
-    for _ in 0..SPOILT {
-        plans.push(plan_bytes(&spoilt_late(rng, &room, &steps)));
+    let mut plans = vec![(bare(&steps), origin), (named(&room, &steps), origin)];
+    plans.extend((0..SPOILT).map(|_| spoilt_late(rng, &room, &steps)));
+    if rng.chance(25) {
+        plans.push((gen::other_file(rng, &room), Origin::OtherFile));
     }
-    plans.push(Vec::new());
+    let records = plans.iter().map(|(plan, origin)| (plan_bytes(plan), Some(*origin)));
+    let plans = records.chain([(Vec::new(), None)]).collect();
     Large { cluster: cluster_bytes(&room), plans }
 }
 
@@ -67,16 +70,38 @@ fn there_and_back(rng: &mut Rng, room: &Room, book: &Book, here: &Placement) -> 
         return None;
     }
     let (vm, to) = (rng.below(room.vms.len()), rng.below(room.nodes.len()));
-    let (there, back) = (vec![Move { vm, to }], vec![Move { vm, to: here.place[vm] }]);
+    let (there, back) = (vec![Move::bare(vm, to)], vec![Move::bare(vm, here.place[vm])]);
     let sound = step_fault(room, book, here, &there).is_none();
     let returns = sound && step_fault(room, book, &here.after(room, &there), &back).is_none();
     returns.then_some([there, back])
 }
 
-/// Changes a plan in the last third of its steps.
-fn spoilt_late(rng: &mut Rng, room: &Room, steps: &[Step]) -> Vec<Step> {
+/// A plan changed in the last third of its steps: the moves with all sources right, or sources.
+fn spoilt_late(rng: &mut Rng, room: &Room, steps: &[Step]) -> (Plan, Origin) {
     let at = steps.len() - rng.range(steps.len().min(1), steps.len().div_ceil(3));
-    let mut late = steps[at..].to_vec();
-    gen::spoil(rng, room, &mut late);
-    [steps[..at].to_vec(), late].concat()
+    let origin = match rng.below(8) {
+        0 => Origin::Stale,
+        1 | 2 if !steps.is_empty() => Origin::OneWrong,
+        3 if !steps.is_empty() => Origin::TurnedRound,
+        _ => Origin::Spoilt,
+    };
+    let mut plan = match origin {
+        Origin::Spoilt => bare(steps),
+        _ => named(room, steps),
+    };
+    let late = Plan { version: Version::Two, steps: plan.steps.split_off(at) };
+    plan.steps.extend(match origin {
+        Origin::OneWrong => gen::one_wrong(rng, room, late).steps,
+        Origin::TurnedRound => gen::turned_round(rng, late).steps,
+        _ => {
+            let mut late = late.steps;
+            gen::spoil(rng, room, &mut late);
+            late
+        }
+    });
+    let plan = match origin {
+        Origin::Spoilt => gen::either(rng, room, &plan.steps),
+        _ => named(room, &plan.steps),
+    };
+    (plan, origin)
 }

@@ -7,13 +7,13 @@ use kobdrieft_model::reasons::reason;
 use kobdrieft_model::rules::plan_cost;
 use kobdrieft_model::text::{planned, verdict_text};
 use kobdrieft_model::{check, cluster_bytes, parse_cluster, parse_plan, plan_bytes};
-use kobdrieft_model::{Room, Step, Verdict};
+use kobdrieft_model::{Plan, Room, Verdict};
 use std::{env, fs, io::Write, process::ExitCode};
 
 const USAGE: &str = "\
 room pack TEXT CLUSTER           a cluster's text to its record
 room unpack CLUSTER [TEXT]       a cluster record to text
-room pack-plan TEXT PLAN         a plan's text to its record
+room pack-plan TEXT PLAN         a plan's text to its record, of the text's version
 room unpack-plan PLAN [TEXT]     a plan record to text
 room plan CLUSTER PLAN           make a plan, write its record, print what the planning program prints
 room check CLUSTER PLAN          print the verdict
@@ -54,16 +54,16 @@ fn run(words: &[&str]) -> Outcome {
             write(cluster, &cluster_bytes(&room))
         }
         ["pack-plan", text, plan] => {
-            let steps = read_plan(&read(text)?).map_err(|fault| at(text, fault))?;
-            write(plan, &plan_bytes(&steps))
+            let made = read_plan(&read(text)?).map_err(|fault| at(text, fault))?;
+            write(plan, &plan_bytes(&made))
         }
         ["unpack", cluster, ref text @ ..] if text.len() < 2 => {
             let room = record(cluster, parse_cluster)?;
             give(text.first(), &write_cluster(&room))
         }
         ["unpack-plan", plan, ref text @ ..] if text.len() < 2 => {
-            let steps = record(plan, parse_plan)?;
-            give(text.first(), &write_plan(&steps))
+            let plan = record(plan, parse_plan)?;
+            give(text.first(), &write_plan(&plan))
         }
         ["plan", cluster, plan] => make_plan(cluster, plan),
         ["check", cluster, plan] => answer(&verdict_text(check(&read(cluster)?, &read(plan)?))),
@@ -81,9 +81,9 @@ fn run(words: &[&str]) -> Outcome {
 
 /// Makes a plan with the model. A refused cluster gives a refusal line and no record.
 fn make_plan(cluster: &str, plan: &str) -> Outcome {
-    let (text, steps) = planned(&read(cluster)?);
-    if let Some(steps) = steps {
-        write(plan, &steps)?;
+    let (text, made) = planned(&read(cluster)?);
+    if let Some(made) = made {
+        write(plan, &made)?;
     }
     answer(&text)
 }
@@ -105,12 +105,12 @@ fn answer(text: &str) -> Outcome {
 /// would is a remark beside the table.
 fn cost_table(cluster: &str, plan: &str) -> Outcome {
     let room = record(cluster, parse_cluster)?;
-    let steps = record(plan, parse_plan)?;
-    let lines = lines(&room, &steps).map_err(|why| refused(plan, 15, &format!(" {why}")))?;
-    let verdict = check(&cluster_bytes(&room), &plan_bytes(&steps));
+    let given = record(plan, parse_plan)?;
+    let lines = lines(&room, &given.steps).map_err(|why| refused(plan, 15, &format!(" {why}")))?;
+    let verdict = check(&cluster_bytes(&room), &plan_bytes(&given));
     let cost = match verdict {
         Verdict::Accepted { cost } => cost,
-        Verdict::Refused { .. } => plan_cost(&room, &steps),
+        Verdict::Refused { .. } => plan_cost(&room, &given.steps),
     };
     give(None, &table(&lines, cost))?;
     if let Verdict::Refused { number, .. } = verdict {
@@ -123,18 +123,18 @@ fn cost_table(cluster: &str, plan: &str) -> Outcome {
 
 fn draw_plan(cluster: &str, plan: &str, to: &str, verdict: Option<&&str>) -> Outcome {
     let room = record(cluster, parse_cluster)?;
-    let steps = record(plan, parse_plan)?;
+    let given = record(plan, parse_plan)?;
     let whose = match verdict {
-        Some(line) => agreed(&room, &steps, line)?,
+        Some(line) => agreed(&room, &given, line)?,
         None => Whose::Model,
     };
     let unfit = |why| Failure(REFUSED, format!("{plan}: {why}"));
-    write(to, page(&room, &steps, whose).map_err(unfit)?.as_bytes())
+    write(to, page(&room, &given, whose).map_err(unfit)?.as_bytes())
 }
 
 /// A verdict is shown as the proved checker's only if the model's is the same.
-fn agreed(room: &Room, steps: &[Step], line: &str) -> Result<Whose, Failure> {
-    let own = verdict_text(check(&cluster_bytes(room), &plan_bytes(steps)));
+fn agreed(room: &Room, plan: &Plan, line: &str) -> Result<Whose, Failure> {
+    let own = verdict_text(check(&cluster_bytes(room), &plan_bytes(plan)));
     let (own, line) = (own.trim_end(), line.trim());
     if own == line {
         return Ok(Whose::Checker);

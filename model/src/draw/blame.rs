@@ -1,6 +1,6 @@
-//! What refuses a step, for the faults 16 to 18: what to mark in its frame, and why.
+//! What refuses a step, for the faults 27 and 16 to 18: what to mark in its frame, and why.
 
-use crate::form::{constraint_line, number_list};
+use crate::form::{constraint_line, number_list, NODES};
 use crate::records::{Move, Room};
 use crate::rules::{allows, mates, within, Placement, Sum};
 
@@ -10,11 +10,12 @@ const MOST_TOLD: usize = 3;
 /// More begins than this are listed in short.
 const MOST_BEGINS: usize = 6;
 
-/// A node that refuses, the VMs to mark on it, and the reason in words.
+/// The node that refuses, if it is there; the blocks to mark, as node and VM; and the reason in
+/// words.
 #[derive(Clone, Debug)]
 struct Culprit {
-    node: usize,
-    vms: Vec<usize>,
+    node: Option<usize>,
+    blocks: Vec<(usize, usize)>,
     why: String,
 }
 
@@ -28,6 +29,7 @@ pub struct Blame {
 impl Blame {
     pub fn of(room: &Room, here: &Placement, step: &[Move], number: u8) -> Blame {
         let (word, culprits) = match number {
+            27 => ("not here", step.iter().filter_map(|&m| misplaced(room, here, m)).collect()),
             16 => ("forbidden", step.iter().filter_map(|&m| forbidden(room, m)).collect()),
             17 => ("no space", no_space(room, here, step)),
             18 => ("mates meet", step.iter().flat_map(|&m| meets(room, here, step, m)).collect()),
@@ -37,11 +39,11 @@ impl Blame {
     }
 
     pub fn has_node(&self, node: usize) -> bool {
-        self.culprits.iter().any(|culprit| culprit.node == node)
+        self.culprits.iter().any(|culprit| culprit.node == Some(node))
     }
 
     pub fn has_vm(&self, node: usize, vm: usize) -> bool {
-        self.culprits.iter().any(|culprit| culprit.node == node && culprit.vms.contains(&vm))
+        self.culprits.iter().any(|culprit| culprit.blocks.contains(&(node, vm)))
     }
 
     pub fn notes(&self) -> Vec<String> {
@@ -51,11 +53,27 @@ impl Blame {
     }
 }
 
+/// Fault 27: the node that a move names as its source, and the VM where it really is.
+fn misplaced(room: &Room, here: &Placement, Move { vm, from, to }: Move) -> Option<Culprit> {
+    let place = here.place[vm];
+    let from = from.filter(|&from| from != place)?;
+    let node = Some(from).filter(|&from| from < room.nodes.len());
+    let more = match node {
+        Some(_) => String::new(),
+        None => format!("; {}", NODES.missing(from as u64, room.nodes.len())),
+    };
+    let why = format!(
+        "The move of VM {vm} to node {to} names node {from} as its source, but VM {vm} is on node \
+         {place} when the step starts{more}."
+    );
+    Some(Culprit { node, blocks: vec![(place, vm)], why })
+}
+
 /// Fault 16: the ban or fence that keeps a move from its destination.
-fn forbidden(room: &Room, Move { vm, to }: Move) -> Option<Culprit> {
+fn forbidden(room: &Room, Move { vm, to, .. }: Move) -> Option<Culprit> {
     let rule = room.constraints.iter().find(|constraint| !allows(constraint, vm, to))?;
     let why = format!("VM {vm} may not go to node {to}: {}.", constraint_line(rule));
-    Some(Culprit { node: to, vms: vec![vm], why })
+    Some(Culprit { node: Some(to), blocks: vec![(to, vm)], why })
 }
 
 /// Fault 17: each node that some order fills past its capacity.
@@ -74,7 +92,8 @@ fn misfit(room: &Room, here: &Placement, step: &[Move], node: usize) -> Option<C
             let leavers: Vec<usize> =
                 step.iter().map(|m| m.vm).filter(|&vm| here.place[vm] == node).collect();
             let what = format!("{}{}", excess(room, node, sum), still_there(&leavers));
-            return Some(Culprit { node, vms: vec![], why: order(&begun, node, &what) });
+            let why = order(&begun, node, &what);
+            return Some(Culprit { node: Some(node), blocks: vec![], why });
         }
     }
     None
@@ -92,7 +111,8 @@ fn excess(room: &Room, node: usize, sum: Sum) -> String {
 
 /// Fault 18: the mates that a move may meet: those that start on its destination, and those that
 /// arrive there too, each pair once.
-fn meets(room: &Room, here: &Placement, step: &[Move], Move { vm, to }: Move) -> Vec<Culprit> {
+fn meets(room: &Room, here: &Placement, step: &[Move], m: Move) -> Vec<Culprit> {
+    let Move { vm, to, .. } = m;
     let meet = |mate: usize| {
         let moves = step.iter().find(|m| m.vm == mate);
         let arrives = moves.is_some_and(|m| m.to == to) && mate < vm;
@@ -104,7 +124,8 @@ fn meets(room: &Room, here: &Placement, step: &[Move], Move { vm, to }: Move) ->
         let leavers: Vec<usize> =
             moves.iter().map(|m| m.vm).filter(|&mate| here.place[mate] == to).collect();
         let what = format!("VMs {vm} and {mate}, spread mates{}", still_there(&leavers));
-        Some(Culprit { node: to, vms: vec![vm, mate], why: order(&begun, to, &what) })
+        let blocks = vec![(to, vm), (to, mate)];
+        Some(Culprit { node: Some(to), blocks, why: order(&begun, to, &what) })
     };
     mates(room, vm).into_iter().filter_map(meet).collect()
 }

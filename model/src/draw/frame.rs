@@ -31,7 +31,7 @@ pub struct Frame {
     pub notes: Vec<String>,
     /// Between steps; such a frame names every VM, others at least those that move.
     pub still: bool,
-    /// Shows only the nodes that its step touches.
+    /// Shows only the nodes that its step touches, and those that refuse it.
     pub brief: bool,
     pub refused: bool,
     pub blame: Blame,
@@ -85,10 +85,6 @@ pub fn frames(room: &Room, steps: &[Step], verdict: Verdict) -> Result<Vec<Frame
         let mut frame = running(room, &here, step);
         frame.title = format!("Step {} of {}", i + 1, steps.len());
         frame.notes = vec![moves(room, &here, step)];
-        if brief {
-            frame.brief = true;
-            frame.shown.retain(|&node| touches(&here, step, node));
-        }
         if i + 1 == refused {
             frame.refuse(number);
             frame.blame = Blame::of(room, &here, step, number);
@@ -96,6 +92,11 @@ pub fn frames(room: &Room, steps: &[Step], verdict: Verdict) -> Result<Vec<Frame
             frame.notes.extend(behind(steps.len() - refused));
         } else {
             frame.notes.push(spent.step(room, step));
+        }
+        if brief {
+            frame.brief = true;
+            let Frame { blame, shown, .. } = &mut frame;
+            shown.retain(|&node| touches(&here, step, node) || blame.has_node(node));
         }
         frames.push(frame);
         here = here.after(room, step);
@@ -128,7 +129,7 @@ fn running(room: &Room, here: &Placement, step: &[Move]) -> Frame {
         let role = leaves.map_or(Role::Rests, |m| Role::Leaves { to: m.to });
         nodes[place].push(Block { vm, role });
     }
-    for &Move { vm, to } in step {
+    for &Move { vm, to, .. } in step {
         nodes[to].push(Block { vm, role: Role::Arrives { from: here.place[vm] } });
     }
     Frame { shown: (0..nodes.len()).collect(), nodes, ..Frame::default() }

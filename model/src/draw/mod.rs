@@ -14,7 +14,7 @@ mod words;
 
 use crate::form::constraint_line;
 use crate::reasons::reason;
-use crate::records::{cluster_bytes, plan_bytes, Room, Step};
+use crate::records::{cluster_bytes, plan_bytes, Plan, Room, Step};
 use crate::rules::{check, Verdict};
 use crate::text::verdict_text;
 use frame::{frames, is_pivot, Frame};
@@ -53,8 +53,9 @@ pub enum Whose {
 }
 
 /// Draws a plan. The error is a sentence, if some step does not fit the cluster (fault 15).
-pub fn page(room: &Room, steps: &[Step], whose: Whose) -> Result<String, String> {
-    let verdict = check(&cluster_bytes(room), &plan_bytes(steps));
+pub fn page(room: &Room, plan: &Plan, whose: Whose) -> Result<String, String> {
+    let steps = &plan.steps;
+    let verdict = check(&cluster_bytes(room), &plan_bytes(plan));
     let frames = frames(room, steps, verdict)?;
     let scale = Scale::of(room, &frames);
     let figures: String = frames.iter().map(|frame| figure(room, &scale, frame)).collect();

@@ -17,7 +17,7 @@ pub fn many(count: usize, noun: &str) -> String {
 /// Why a step does not fit the cluster, if it does not: fault 15 in words.
 pub fn stranger(room: &Room, here: &Placement, step: &[Move]) -> Option<String> {
     let mut before = None;
-    for &Move { vm, to } in step {
+    for &Move { vm, to, .. } in step {
         if vm >= room.vms.len() {
             return Some(VMS.missing(vm as u64, room.vms.len()));
         }

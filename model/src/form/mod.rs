@@ -10,7 +10,14 @@
 //! latency vms 0 1 groups 0 1 | 2      a group without nodes is empty, no groups at all are none
 //! ```
 //!
-//! A plan is a line for each step, with moves of VM and destination: `step 0 to 1, 1 to 0`.
+//! A plan is a line for each step, with moves of one version or the other throughout.
+//!
+//! ```text
+//! version 2                           may stand before the first step; a plan without steps is of
+//!                                     version 1 unless this line says otherwise
+//! step 0 to 1, 1 to 0                 version 1: VM, destination
+//! step 0 from 0 to 1, 1 from 1 to 0   version 2: VM, source, destination
+//! ```
 
 mod read;
 mod steps;

@@ -48,8 +48,9 @@ fn sort(lines: Vec<Words>) -> Result<Sorted, Fault> {
             kind @ ("ban" | "fence" | "spread" | "latency") => {
                 sorted.constraints.push((kind, words));
             }
-            "step" => {
-                return words.fault("'step' belongs in a plan's text; this is read as a cluster");
+            word @ ("step" | "version") => {
+                let reason = "belongs in a plan's text; this is read as a cluster";
+                return words.fault(format!("'{word}' {reason}"));
             }
             other => {
                 let known = "node, vm, ban, fence, spread or latency";

@@ -11,7 +11,7 @@ use borrow.Author.Tests.{lt-ltb, le-ltb}
 use Rattle.records.specs.Base.{pick}
 use Rattle.records.specs.Bytes.{bytes16, bytes32}
 use Rattle.records.specs.Room.{roomOf, clusterCheck}
-use Rattle.records.specs.Plan.{stepsOf, shaped, stepsBytes, headerBytes, planBytes, written, planCheck}
+use Rattle.records.specs.Plan.{stepsOf, shaped, stepsBytes, headerBytes, writtenVersion, planBytes, written, planCheck}
 use Rattle.records.specs.declared.faults.ClusterFault.{ClusterFault}
 use Rattle.records.specs.declared.faults.ClusterCheck.{ClusterCheck}
 use Rattle.records.specs.declared.faults.PlanCheck.{PlanCheck}
@@ -38,7 +38,7 @@ use Rattle.planner.specs.declared.answer.Answer.the-variants.{Plan, Bloc
 
 module _ (s before mid : List ℕ) (trail : Trail) (t : Trailed s before mid trail) (b : leastBuffer ≤ length before) where
   plan-low : length (planBytes (stepsFor (roomOf s))) ≤ leastBuffer
-  plan-low = let a = plan-length (stepsFor (roomOf s)) in let m = t .moves-most in let n = t .steps-most in omega arith
+  plan-low = let a = plan-length (stepsFor (roomOf s)) (t .tells) in let m = t .moves-most in let n = t .steps-most in omega arith
 
   size-is : length (planBytes (stepsFor (roomOf s))) ≡ 7 + length (stepsBytes (stepsFor (roomOf s)))
   unfolding planBytes headerBytes bytes32 bytes16
@@ -47,13 +47,13 @@ module _ (s before mid : List ℕ) (trail : Trail) (t : Trailed s before mid tra
   end-low : trail .end ≤ length before
   end-low = let a = plan-low in let c = size-is in let e = t .end in omega arith
 
-  module _ (out : List ℕ) (f : out ≡ written mid 0 (headerBytes (trail .end) (trail .steps))) where
+  module _ (out : List ℕ) (f : out ≡ written mid 0 (headerBytes writtenVersion (trail .end) (trail .steps))) where
     record-is : out ≡ planBytes (stepsFor (roomOf s)) ++ drop (length (planBytes (stepsFor (roomOf s)))) before
     unfolding planBytes headerBytes bytes32 bytes16
     record-is =
         let a = plan-low in let c = size-is in
         f ∙ rw (t .buffer, t .end, t .steps)
-        (written-earlier before 0 (headerBytes (7 + length (stepsBytes (stepsFor (roomOf s)))) (length (stepsFor (roomOf s)))) (stepsBytes (stepsFor (roomOf s))) (omega arith)) ∙
+        (written-earlier before 0 (headerBytes writtenVersion (7 + length (stepsBytes (stepsFor (roomOf s)))) (length (stepsFor (roomOf s)))) (stepsBytes (stepsFor (roomOf s))) (omega arith)) ∙
         written-zero before (planBytes (stepsFor (roomOf s)))
 
     part-is : take (trail .end) out ≡ planBytes (stepsFor (roomOf s))
@@ -76,11 +76,11 @@ module _ (s before mid : List ℕ) (trail : Trail) (t : Trailed s before mid tra
     part-length = length-take-le (trail .end) out part-low
 
     pub part-whole : planCheck (take (trail .end) out) ≡ PlanCheck.Whole
-    part-whole = ap planCheck part-is ∙ plan-whole (stepsFor (roomOf s)) (t .shaped)
+    part-whole = ap planCheck part-is ∙ plan-whole (stepsFor (roomOf s)) (t .tells) (t .shaped)
 
     module _ (cost : ℕ) (c : cost ≡ costOf (roomOf s) (stepsOf (take (trail .end) out))) where
       cost-is : cost ≡ costOf (roomOf s) (stepsFor (roomOf s))
-      cost-is = c ∙ ap (costOf (roomOf s)) (ap stepsOf part-is ∙ steps-of-plan (stepsFor (roomOf s)) (t .shaped))
+      cost-is = c ∙ ap (costOf (roomOf s)) (ap stepsOf part-is ∙ steps-of-plan (stepsFor (roomOf s)) (t .tells) (t .shaped))
 
       made : Made
       made = record { steps = trail .steps; moves = trail .moves; cost = cost }

@@ -13,24 +13,26 @@ use borrow.Author.Tests.{eqb-true, eqb-false, not-true, le-leb, eq-eqb}
 use Rattle.records.specs.Base.{pick, all, sumOf}
 use Rattle.records.specs.Room.{Room}
 use Rattle.records.specs.Plan.{Move, Step, moveTotal, sized, shaped}
+use Rattle.records.specs.Inner.{tellsSources}
 use Rattle.records.proofs.Laws.Bools.{and-left, and-right, and-both, all-head, all-tail}
 use Rattle.rules.specs.Moments.{Placement, placeOf, targetOf, after}
 use Rattle.rules.specs.Orders.{some}
-use Rattle.rules.specs.Rules.{from, named, soundStep}
-use Rattle.rules.specs.Promises.{afterAll, soundAll}
+use Rattle.rules.specs.Rules.{from, named, sourced, soundStep}
+use Rattle.rules.specs.Promises.{afterAll, sourcedAll, soundAll}
 use Rattle.rules.proofs.Laws.Orders.{never, named-least, named-vm, named-rest, after-length}
 use Rattle.rules.proofs.Laws.Sound.{sound-named}
-use Rattle.planner.specs.Picks.{vmsIn, away, awayCount, moving, direct, canGo, directStep, otherGoes, useful, orElse, pivotStep, nextStep, Picks, rests, goes, onward, pickedWithin, picked}
+use Rattle.planner.specs.Picks.{vmsIn, away, awayCount, moving, direct, canGo, directStep, otherGoes, useful, orElse, pivotStep, fromPlaces, nextStep, Picks, rests, goes, onward, pickedWithin, picked}
 use Rattle.planner.proofs.Laws.Direct.{homeward, direct-sound, direct-moves, goes-there, direct-none}
 use Rattle.planner.proofs.Laws.Pivots.{pivot-sound, pivot-is}
+use Rattle.planner.proofs.Laws.Naming.{from-sound, from-after, from-length, from-none, from-sourced, from-tells}
 
 -- ---- the next step
 
--- what holds of the direct step, and of the pivot where that has no moves, holds of it
-next-cases : (room : Room) (places : Placement) (P : Step → Type 0) → P (directStep room places) → (directStep room places ≡ [] → P (pivotStep room places)) →
-    P (nextStep room places)
+-- what holds of the direct step, and of the pivot where that has no moves, and of a step also once its sources are named, holds of it
+next-cases : (room : Room) (places : Placement) (P : Step → Type 0) → ((step : Step) → P step → P (fromPlaces places step)) →
+    P (directStep room places) → (directStep room places ≡ [] → P (pivotStep room places)) → P (nextStep room places)
 unfolding nextStep orElse
-next-cases room places P = go (directStep room places)
+next-cases room places P names p other = names (orElse (directStep room places) (pivotStep room places)) (go (directStep room places) p other)
   where
     go : (step : Step) → P step → (step ≡ [] → P (pivotStep room places)) → P (orElse step (pivotStep room places))
     go [] p other = other refl
@@ -38,7 +40,7 @@ next-cases room places P = go (directStep room places)
 
 pub next-sound : (room : Room) (places : Placement) → soundStep room places (nextStep room places) ≡ true
 next-sound room places =
-    next-cases room places (λ step. soundStep room places step ≡ true) (direct-sound room places) (λ e. pivot-sound room places)
+    next-cases room places (λ step. soundStep room places step ≡ true) (λ step s. from-sound room places step ∙ s) (direct-sound room places) (λ e. pivot-sound room places)
 
 -- a step that is not empty has a move
 pub not-empty : (move : Move) (moves : Step) → move ∷ moves ≡ [] → ⊥
@@ -283,10 +285,13 @@ module _ (room : Room) (places : Placement) (l : length places ≡ length (room 
   pub turn-budget : (step : Step) → nextStep room places ≡ step → (step ≡ [] → ⊥) → budget room (after places step) + length step ≤ budget room places
   unfolding after
   turn-budget step e n =
-      subst Turn e (next-cases room places Turn direct-turn (λ q. go q (pivotStep room places) refl)) n
+      subst Turn e (next-cases room places Turn named direct-turn (λ q. go q (pivotStep room places) refl)) n
     where
       Turn : Step → Type 0
       Turn step = (step ≡ [] → ⊥) → budget room (after places step) + length step ≤ budget room places
+
+      named : (step : Step) → Turn step → Turn (fromPlaces places step)
+      named step t n = rw (from-after places places step, from-length places step) (t (λ e. n (ap (fromPlaces places) e ∙ from-none places)))
 
       go : directStep room places ≡ [] → (step : Step) → pivotStep room places ≡ step → Turn step
       go q [] r n = absurd (n refl)
@@ -333,6 +338,18 @@ module _ (room : Room) where
   picks-sound places [] (rests e) = refl
   picks-sound places (step ∷ steps) (goes e n p) =
       and-both (ap (soundStep room places) (sym e) ∙ next-sound room places) (picks-sound (after places step) steps p)
+
+  pub picks-sourced : (places : Placement) (steps : List Step) → Picks room places steps → sourcedAll places steps ≡ true
+  unfolding sourcedAll nextStep
+  picks-sourced places [] (rests e) = refl
+  picks-sourced places (step ∷ steps) (goes e n p) =
+      and-both (ap (sourced places) (sym e) ∙ from-sourced places (orElse (directStep room places) (pivotStep room places))) (picks-sourced (after places step) steps p)
+
+  pub picks-tell : (places : Placement) (steps : List Step) → Picks room places steps → all tellsSources steps ≡ true
+  unfolding all nextStep
+  picks-tell places [] (rests e) = refl
+  picks-tell places (step ∷ steps) (goes e n p) =
+      and-both (ap tellsSources (sym e) ∙ from-tells places (orElse (directStep room places) (pivotStep room places))) (picks-tell (after places step) steps p)
 
   pub picks-ends : (places : Placement) (steps : List Step) → Picks room places steps → nextStep room (afterAll places steps) ≡ []
   unfolding afterAll

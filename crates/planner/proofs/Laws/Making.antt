@@ -12,10 +12,11 @@ use lib.Dec.{ltb}
 use borrow.Author.Tests.{ltb-true, lt-ltb}
 use mir.Syntax.{w64}
 use mir.Val.{Fits}
-use Rattle.records.specs.Base.{sumOf}
+use Rattle.records.specs.Base.{all, sumOf}
 use Rattle.records.specs.Bytes.{bytes16}
 use Rattle.records.specs.Room.{Room, roomOf, vmCount, clusterCheck}
-use Rattle.records.specs.Plan.{Step, moveTotal, shaped, movesBytes, stepBytes, stepsBytes, written}
+use Rattle.records.specs.Plan.{Step, withSources, moveTotal, shaped, movesBytes, stepBytes, stepsBytes, written, writtenWidth}
+use Rattle.records.specs.Inner.{tellsSources}
 use Rattle.records.specs.declared.faults.ClusterCheck.the-variants.{Whole}
 use Rattle.records.proofs.Laws.Cluster.{nodes-most, vms-most, vms-count, nodes-count}
 use Rattle.records.proofs.Laws.RoundTrip.{moves-length, steps-bytes-length}
@@ -27,18 +28,21 @@ use Rattle.rules.specs.Promises.{afterAll}
 use Rattle.rules.specs.Inner.{held, Placed, arrayOf, destsFrom}
 use Rattle.rules.proofs.Laws.Fit.{dests-length}
 use Rattle.rules.proofs.Laws.Orders.{named-least, named-vm, named-node, named-off, named-rest, named-cons, after-length}
+use Rattle.records.proofs.Laws.Bools.{and-both}
+use Rattle.rules.proofs.Laws.Adding.{all-snoc}
 use Rattle.rules.proofs.Laws.Runs.{after-all-snoc}
 use Rattle.rules.proofs.Laws.Places.{current-holds}
 use Rattle.rules.proofs.Laws.Sound.{sound-named}
 use Rattle.rules.proofs.Laws.Turns.{after-held, after-placed}
 use Rattle.rules.proofs.Laws.Verdicts.{current-length}
-use Rattle.planner.specs.Picks.{moving, directStep, pivotStep, orElse, nextStep, Picks, picked}
+use Rattle.planner.specs.Picks.{moving, directStep, pivotStep, orElse, fromPlaces, nextStep, Picks, picked}
 use Rattle.planner.specs.Answer.{stepsFor, leastBuffer}
-use Rattle.planner.specs.Inner.{moveIn, movesIn, Trailed}
+use Rattle.planner.specs.Inner.{bare, moveIn, movesIn, Trailed}
 use Rattle.planner.proofs.Laws.Budget.{next-sound, budget, budget-511, turn-budget, picks-unique, picks-steps, picks-shaped, Leads, leads-start, leads-turn, leads-end}
 use Rattle.planner.proofs.Laws.Direct.{direct-sound}
 use Rattle.planner.proofs.Laws.Lone.{held-length}
 use Rattle.planner.proofs.Laws.Moves.{move-none, move-one, written-none}
+use Rattle.planner.proofs.Laws.Naming.{from-bare, from-twice, from-held, from-tells, from-dests, bare-length, bare-after}
 
 -- ---- the array of destinations gives the step back
 
@@ -58,8 +62,8 @@ module _ (room : Room) (places : Placement) (few : length (room .nodes) ≤ 64) 
       getD-set-other (destsFrom moves) (move .vm) v (move .to) 0 (λ e. omega arith) ∙
       dests-low (suc (move .vm)) moves v (named-rest room places least move moves n) (omega arith) k
 
-  moves-from : (n k least : ℕ) (step : Step) → k + n ≡ length (room .vms) → k ≤ least → named room places least step ≡ true → movesIn (destsFrom step) k n ≡ step
-  unfolding movesIn destsFrom named
+  moves-from : (n k least : ℕ) (step : Step) → k + n ≡ length (room .vms) → k ≤ least → named room places least step ≡ true → movesIn (destsFrom step) k n ≡ bare step
+  unfolding movesIn destsFrom named bare withSources
   moves-from zero k least [] e h m = refl
   moves-from zero k least (move ∷ moves) e h m =
       let l = named-least room places least move moves m in let t = named-vm room places least move moves m in absurd (omega arith)
@@ -77,7 +81,8 @@ module _ (room : Room) (places : Placement) (few : length (room .nodes) ≤ 64) 
       ap₂ (λ (x y : Step). x ++ y) (move-none k (getD (destsFrom (move ∷ moves)) k 0) (dests-low (suc k) (move ∷ moves) k again (omega arith) (omega arith)))
       (moves-from n (suc k) (suc k) (move ∷ moves) (omega arith) (omega arith) again))
     where
-      own : (named room places (suc k) moves ≡ true → movesIn (destsFrom moves) (suc k) n ≡ moves) → move .vm ≡ k → movesIn (destsFrom (move ∷ moves)) k (suc n) ≡ move ∷ moves
+      own : (named room places (suc k) moves ≡ true → movesIn (destsFrom moves) (suc k) n ≡ bare moves) → move .vm ≡ k →
+          movesIn (destsFrom (move ∷ moves)) k (suc n) ≡ bare (move ∷ moves)
       own more q =
           let b = named-node room places least move moves m in
           let here : getD (set (destsFrom moves) (move .vm) (move .to)) k 0 ≡ move .to =
@@ -88,9 +93,9 @@ module _ (room : Room) (places : Placement) (few : length (room .nodes) ≤ 64) 
           (moves-same (set (destsFrom moves) (move .vm) (move .to)) (destsFrom moves) (suc k) n (λ i l. getD-set-other (destsFrom moves) (move .vm) i (move .to) 0 (λ z. omega arith)) ∙
           more rest)
 
--- the moves of the array of a sound step are its moves
+-- the moves of the array of a sound step are its moves, without their sources
 pub moves-back : (s places dests : List ℕ) (n : ℕ) (step : Step) → dests ≡ destsFrom step → n ≡ vmCount s → clusterCheck s ≡ Whole →
-    soundStep (roomOf s) (held s places) step ≡ true → movesIn dests 0 n ≡ step
+    soundStep (roomOf s) (held s places) step ≡ true → movesIn dests 0 n ≡ bare step
 moves-back s places dests n step e q w sound =
     let a = nodes-most s w in let b = vms-most s w in let c = nodes-count s in let d = vms-count s in
     rw e (moves-from (roomOf s) (held s places) (omega arith) (omega arith) n 0 0 step (omega arith) (omega arith) (sound-named (roomOf s) (held s places) step sound))
@@ -100,11 +105,15 @@ moves-back s places dests n step e q w sound =
 module _ (s places dests : List ℕ) (n : ℕ) (ok : Bool) (o : ok ≡ ltb 0 (length (movesIn dests 0 n))) (e : dests ≡ destsFrom (directStep (roomOf s) (held s places)))
     (q : n ≡ vmCount s) (w : clusterCheck s ≡ Whole) where
   ok-is : ok ≡ ltb 0 (length (directStep (roomOf s) (held s places)))
-  ok-is = o ∙ ap (λ (x : Step). ltb 0 (length x)) (moves-back s places dests n (directStep (roomOf s) (held s places)) e q w (direct-sound (roomOf s) (held s places)))
+  ok-is =
+      o ∙ ap (λ (x : Step). ltb 0 (length x)) (moves-back s places dests n (directStep (roomOf s) (held s places)) e q w (direct-sound (roomOf s) (held s places))) ∙
+      ap (ltb 0) (bare-length (directStep (roomOf s) (held s places)))
 
   pub next-direct : ok ≡ true → dests ≡ destsFrom (nextStep (roomOf s) (held s places))
   unfolding nextStep orElse
-  next-direct t = e ∙ ap destsFrom (go (directStep (roomOf s) (held s places)) (sym ok-is ∙ t))
+  next-direct t =
+      e ∙ ap destsFrom (go (directStep (roomOf s) (held s places)) (sym ok-is ∙ t)) ∙
+      sym (from-dests (held s places) (orElse (directStep (roomOf s) (held s places)) (pivotStep (roomOf s) (held s places))))
     where
       go : (step : Step) → ltb 0 (length step) ≡ true → step ≡ orElse step (pivotStep (roomOf s) (held s places))
       go [] f = absurd (let l = ltb-true 0 0 f in omega arith)
@@ -119,7 +128,7 @@ module _ (s places dests : List ℕ) (n : ℕ) (ok : Bool) (o : ok ≡ ltb 0 (le
 
   pub next-pivot : (r : List ℕ) → r ≡ destsFrom (pivotStep (roomOf s) (held s places)) → ok ≡ false → r ≡ destsFrom (nextStep (roomOf s) (held s places))
   unfolding nextStep orElse
-  next-pivot r f t = f ∙ rw (next-none t)
+  next-pivot r f t = f ∙ rw (next-none t) (sym (from-dests (held s places) (pivotStep (roomOf s) (held s places))))
 
 -- ---- the turns
 
@@ -130,6 +139,7 @@ pub record Making (s before out places : List ℕ) (end steps moves : ℕ) : Typ
   pub ends : end ≡ 7 + length (stepsBytes done)
   pub counted : steps ≡ length done
   pub summed : moves ≡ moveTotal done
+  pub tells : all tellsSources done ≡ true
   pub placed : Placed s places
   pub size : length places ≡ 256
   pub here : held s places ≡ afterAll (currentOf (roomOf s)) done
@@ -139,7 +149,7 @@ pub record Making (s before out places : List ℕ) (end steps moves : ℕ) : Typ
 
 pub making-start : (s before places : List ℕ) → places ≡ arrayOf (currentOf (roomOf s)) → length places ≡ 256 → clusterCheck s ≡ Whole → leastBuffer ≤ length before →
     Making s before before places 7 0 0
-unfolding stepsBytes moveTotal sumOf afterAll
+unfolding stepsBytes moveTotal sumOf afterAll all
 making-start s before places a z w b =
     let h = current-holds s places a w in
     let m = vms-most s w in let n = vms-count s in let k = budget-511 (roomOf s) (held s places) (omega arith) in
@@ -149,6 +159,7 @@ making-start s before places a z w b =
       ends = refl;
       counted = refl;
       summed = refl;
+      tells = refl;
       placed = h .placed;
       size = z;
       here = h .is;
@@ -169,11 +180,11 @@ total-snoc [] step = omega arith
 total-snoc (first ∷ steps) step = let h : sumOf length (steps ++ (step ∷ [])) ≡ sumOf length steps + length step = total-snoc steps step in omega arith
 
 -- the moves of a step, then its count in front of them
-step-written : (before a : List ℕ) (step : Step) → 7 + length a + 2 + length step * 2 ≤ length before →
+step-written : (before a : List ℕ) (step : Step) → tellsSources step ≡ true → 7 + length a + 2 + length step * writtenWidth ≤ length before →
     written (written (written before 7 a) (7 + length a + 2) (movesBytes step)) (7 + length a) (bytes16 (length step)) ≡ written before 7 (a ++ stepBytes step)
 unfolding stepBytes bytes16
-step-written before a step h =
-    let k = moves-length step in
+step-written before a step n h =
+    let k = moves-length step n in
     let l : length (written before 7 a) ≡ length before = written-length before 7 a (omega arith) in
     let f : 7 + length a + 2 + length (movesBytes step) ≤ length (written before 7 a) = omega arith in
     written-earlier (written before 7 a) (7 + length a) (bytes16 (length step)) (movesBytes step) f ∙
@@ -182,12 +193,28 @@ step-written before a step h =
 -- a turn that has a next step
 module _ (s before out places dests : List ℕ) (end steps moves vms : ℕ) (ok : Bool) (inv : Making s before out places end steps moves)
     (e : dests ≡ destsFrom (nextStep (roomOf s) (held s places))) (o : ok ≡ ltb 0 (length (movesIn dests 0 vms))) (q : vms ≡ vmCount s) (w : clusterCheck s ≡ Whole) where
-  step-is : movesIn dests 0 vms ≡ nextStep (roomOf s) (held s places)
-  step-is = moves-back s places dests vms (nextStep (roomOf s) (held s places)) e q w (next-sound (roomOf s) (held s places))
+  step-bare : movesIn dests 0 vms ≡ bare (nextStep (roomOf s) (held s places))
+  step-bare = moves-back s places dests vms (nextStep (roomOf s) (held s places)) e q w (next-sound (roomOf s) (held s places))
+
+  length-is : length (movesIn dests 0 vms) ≡ length (nextStep (roomOf s) (held s places))
+  length-is = ap length step-bare ∙ bare-length (nextStep (roomOf s) (held s places))
+
+  well-named : named (roomOf s) (held s places) 0 (nextStep (roomOf s) (held s places)) ≡ true
+  well-named = sound-named (roomOf s) (held s places) (nextStep (roomOf s) (held s places)) (next-sound (roomOf s) (held s places))
+
+  step-is : fromPlaces places (movesIn dests 0 vms) ≡ nextStep (roomOf s) (held s places)
+  unfolding nextStep
+  step-is =
+      ap (fromPlaces places) step-bare ∙ from-bare places (nextStep (roomOf s) (held s places)) ∙ from-held s places 0 (nextStep (roomOf s) (held s places)) well-named ∙
+      from-twice (held s places) (held s places) (orElse (directStep (roomOf s) (held s places)) (pivotStep (roomOf s) (held s places)))
+
+  tells-next : tellsSources (nextStep (roomOf s) (held s places)) ≡ true
+  unfolding nextStep
+  tells-next = from-tells (held s places) (orElse (directStep (roomOf s) (held s places)) (pivotStep (roomOf s) (held s places)))
 
   -- the end
   pub last-none : ok ≡ false → nextStep (roomOf s) (held s places) ≡ []
-  last-none t = go (nextStep (roomOf s) (held s places)) (ap (λ (x : Step). ltb 0 (length x)) (sym step-is) ∙ sym o ∙ t)
+  last-none t = go (nextStep (roomOf s) (held s places)) (ap (ltb 0) (sym length-is) ∙ sym o ∙ t)
     where
       go : (step : Step) → ltb 0 (length step) ≡ false → step ≡ []
       go [] f = refl
@@ -195,7 +222,7 @@ module _ (s before out places dests : List ℕ) (end steps moves vms : ℕ) (ok 
 
   module _ (t : ok ≡ true) (b : leastBuffer ≤ length before) where
     some : 0 < length (nextStep (roomOf s) (held s places))
-    some = ltb-true 0 (length (nextStep (roomOf s) (held s places))) (ap (λ (x : Step). ltb 0 (length x)) (sym step-is) ∙ sym o ∙ t)
+    some = ltb-true 0 (length (nextStep (roomOf s) (held s places))) (ap (ltb 0) (sym length-is) ∙ sym o ∙ t)
 
     not-none : nextStep (roomOf s) (held s places) ≡ [] → ⊥
     not-none z = let l = some in let k = ap length z in omega arith
@@ -206,23 +233,23 @@ module _ (s before out places dests : List ℕ) (end steps moves vms : ℕ) (ok 
     falls : budget (roomOf s) (after (held s places) (nextStep (roomOf s) (held s places))) + length (nextStep (roomOf s) (held s places)) ≤ budget (roomOf s) (held s places)
     falls = turn-budget (roomOf s) (held s places) size-is (nextStep (roomOf s) (held s places)) refl not-none
 
-    end-is : end ≡ 7 + steps * 2 + moves * 2
-    end-is = let a = steps-bytes-length (inv .done) in let c = inv .ends in let d = inv .counted in let f = inv .summed in omega arith
+    end-is : end ≡ 7 + steps * 2 + moves * writtenWidth
+    end-is = let a = steps-bytes-length (inv .done) (inv .tells) in let c = inv .ends in let d = inv .counted in let f = inv .summed in omega arith
 
-    room-left : end + 2 + length (nextStep (roomOf s) (held s places)) * 2 ≤ length before
+    room-left : end + 2 + length (nextStep (roomOf s) (held s places)) * writtenWidth ≤ length before
     room-left = let a = end-is in let c = falls in let d = inv .spare in let f = inv .fewer in let g = some in omega arith
 
     out-size : length out ≡ length before
     out-size = let r = room-left in let c = inv .ends in ap length (inv .buffer) ∙ written-length before 7 (stepsBytes (inv .done)) (omega arith)
 
-    pub turn-room : end + 2 + length (movesIn dests 0 vms) * 2 ≤ length out
-    turn-room = let a = out-size in let r = room-left in rw step-is (omega arith)
+    pub turn-room : end + 2 + length (movesIn dests 0 vms) * writtenWidth ≤ length out
+    turn-room = let a = out-size in let r = room-left in rw length-is (omega arith)
 
     module _ (n : ℕ) (c : n ≡ length (movesIn dests 0 vms)) where
       n-is : n ≡ length (nextStep (roomOf s) (held s places))
-      n-is = c ∙ ap length step-is
+      n-is = c ∙ length-is
 
-      pub turn-low : end + 2 + n * 2 ≤ length before
+      pub turn-low : end + 2 + n * writtenWidth ≤ length before
       turn-low = let a = n-is in let r = room-left in omega arith
 
       pub steps-low : Fits w64 (steps + 1)
@@ -231,28 +258,25 @@ module _ (s before out places dests : List ℕ) (end steps moves vms : ℕ) (ok 
       pub moves-low : Fits w64 (moves + n)
       moves-low = let a = inv .spare in let d = falls in let f = n-is in record { fits = omega arith }
 
-      module _ (more : List ℕ) (m : more ≡ written out (end + 2) (movesBytes (movesIn dests 0 vms))) where
+      module _ (more : List ℕ) (m : more ≡ written out (end + 2) (movesBytes (fromPlaces places (movesIn dests 0 vms)))) where
         more-size : length more ≡ length before
         more-size =
-            let a = out-size in let r = room-left in let k = moves-length (nextStep (roomOf s) (held s places)) in
-            ap length m ∙ written-length out (end + 2) (movesBytes (movesIn dests 0 vms)) (rw step-is (omega arith)) ∙ out-size
+            let a = out-size in let r = room-left in let k = moves-length (nextStep (roomOf s) (held s places)) tells-next in
+            ap length m ∙ written-length out (end + 2) (movesBytes (fromPlaces places (movesIn dests 0 vms))) (rw step-is (omega arith)) ∙ out-size
 
-        pub turn-fits : end + 2 + n * 2 ≤ length more
+        pub turn-fits : end + 2 + n * writtenWidth ≤ length more
         turn-fits = let a = more-size in let r = turn-low in omega arith
 
-        module _ (whole next : List ℕ) (r : ℕ) (g : r ≡ end + 2 + n * 2) (x : whole ≡ written more end (bytes16 n)) (y : next ≡ after places (movesIn dests 0 vms)) where
+        module _ (whole next : List ℕ) (r : ℕ) (g : r ≡ end + 2 + n * writtenWidth) (x : whole ≡ written more end (bytes16 n)) (y : next ≡ after places (movesIn dests 0 vms)) where
           all-written : whole ≡ written before 7 (stepsBytes (inv .done ++ (nextStep (roomOf s) (held s places) ∷ [])))
           all-written =
               let step = nextStep (roomOf s) (held s places) in
               let rest = room-left in let d = inv .ends in
               x ∙ rw (m, step-is, n-is, inv .buffer, d)
-              (step-written before (stepsBytes (inv .done)) step (omega arith) ∙ ap (written before 7) (sym (bytes-snoc (inv .done) step)))
-
-          well-named : named (roomOf s) (held s places) 0 (nextStep (roomOf s) (held s places)) ≡ true
-          well-named = sound-named (roomOf s) (held s places) (nextStep (roomOf s) (held s places)) (next-sound (roomOf s) (held s places))
+              (step-written before (stepsBytes (inv .done)) step tells-next (omega arith) ∙ ap (written before 7) (sym (bytes-snoc (inv .done) step)))
 
           next-is : next ≡ after places (nextStep (roomOf s) (held s places))
-          next-is = y ∙ ap (after places) step-is
+          next-is = y ∙ ap (after places) step-bare ∙ bare-after places (nextStep (roomOf s) (held s places))
 
           next-held : held s next ≡ after (held s places) (nextStep (roomOf s) (held s places))
           next-held = ap (held s) next-is ∙ after-held s places (held s places) 0 (nextStep (roomOf s) (held s places)) well-named
@@ -266,7 +290,7 @@ module _ (s before out places dests : List ℕ) (end steps moves vms : ℕ) (ok 
               let step = nextStep (roomOf s) (held s places) in
               let a = n-is in let d = some in let f = falls in let i = inv .spare in let j = inv .fewer in
               let size = ap length (bytes-snoc (inv .done) step) ∙ length-append (stepsBytes (inv .done)) (stepBytes step) in
-              let own = moves-length step in let k = inv .ends in let l = inv .counted in let u = inv .summed in let v = total-snoc (inv .done) step in
+              let own = moves-length step tells-next in let k = inv .ends in let l = inv .counted in let u = inv .summed in let v = total-snoc (inv .done) step in
               let p = length-append (inv .done) (step ∷ []) in
               record {
                 done = inv .done ++ (step ∷ []);
@@ -274,6 +298,7 @@ module _ (s before out places dests : List ℕ) (end steps moves vms : ℕ) (ok 
                 ends = omega arith;
                 counted = omega arith;
                 summed = omega arith;
+                tells = all-snoc tellsSources (inv .done) step ∙ and-both (inv .tells) tells-next;
                 placed = rw next-is (after-placed s places (held s places) 0 step well-named (inv .placed));
                 size = ap length next-is ∙ after-length places step ∙ inv .size;
                 here = next-held ∙ ap (λ (x : Placement). after x step) (inv .here) ∙ sym (after-all-snoc (currentOf (roomOf s)) (inv .done) step);
@@ -306,6 +331,7 @@ module _ (s before out places : List ℕ) (end steps moves : ℕ) (inv : Making 
         steps = inv .counted ∙ ap length done-is;
         moves = inv .summed ∙ ap moveTotal done-is;
         home = h ∙ ap (home (roomOf s)) (inv .here ∙ ap (afterAll (currentOf (roomOf s))) done-is);
+        tells = rw (← done-is) (inv .tells);
         shaped = rw (← done-is) (picks-shaped (roomOf s) (omega arith) (currentOf (roomOf s)) (inv .done) start-size all-picked);
         steps-most = rw (← done-is) (let a = inv .spare in let b = inv .counted in let c = inv .fewer in omega arith);
         moves-most = rw (← done-is) (let a = inv .spare in let b = inv .summed in omega arith);
@@ -313,5 +339,5 @@ module _ (s before out places : List ℕ) (end steps moves : ℕ) (inv : Making 
 
 pub making-length : (s before out places : List ℕ) (end steps moves : ℕ) → Making s before out places end steps moves → leastBuffer ≤ length before → length out ≡ length before
 making-length s before out places end steps moves inv b =
-    let a = steps-bytes-length (inv .done) in let c = inv .counted in let d = inv .summed in let e = inv .fewer in let f = inv .spare in
+    let a = steps-bytes-length (inv .done) (inv .tells) in let c = inv .counted in let d = inv .summed in let e = inv .fewer in let f = inv .spare in
     ap length (inv .buffer) ∙ written-length before 7 (stepsBytes (inv .done)) (omega arith)

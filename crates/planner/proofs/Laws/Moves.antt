@@ -11,12 +11,13 @@ use lib.Seq.{set-getD}
 use lib.Dec.{ltb, eqb}
 use borrow.Author.Tests.{lt-ltb, eq-eqb, ne-eqb}
 use Rattle.records.specs.Base.{pick}
-use Rattle.records.specs.Plan.{Step, moveBytes, movesBytes, written}
-use Rattle.records.proofs.Laws.RoundTrip.{moves-length}
+use Rattle.records.specs.Plan.{Move, Step, withSources, moveBytes, movesBytes, written, writtenWidth}
+use Rattle.records.specs.declared.plan.Source.the-variants.{Named}
 use Rattle.records.proofs.Laws.Written.{written-next, written-length}
 use Rattle.rules.specs.Moments.{after}
-use Rattle.planner.specs.Picks.{moving}
-use Rattle.planner.specs.Inner.{moveIn, movesIn, behindStep}
+use Rattle.planner.specs.Picks.{moving, fromPlaces}
+use Rattle.planner.specs.Inner.{moveIn, moveFrom, movesIn, behindStep}
+use Rattle.planner.proofs.Laws.Naming.{from-size, from-append}
 
 -- ---- the moves of one VM
 
@@ -127,16 +128,27 @@ unfolding written
 written-none l at h = ap (λ (k : ℕ). take at l ++ drop k l) (add-zero at) ∙ take-append-drop at l
 
 -- one VM's move, or none
-module _ (l : List ℕ) (at v d : ℕ) where
-  pub put-none : d ≡ 64 → at + length (moveIn v d) * 2 ≤ length l → l ≡ written l at (movesBytes (moveIn v d))
-  unfolding movesBytes
-  put-none e h = sym (ap (λ (x : Step). written l at (movesBytes x)) (move-none v d e) ∙ written-none l at (omega arith))
+from-one : (places : List ℕ) (v d : ℕ) → fromPlaces places (moveIn v d) ≡ moveFrom v (getD places v 0) d
+unfolding fromPlaces moveFrom moveIn withSources
+from-one places v d = go (eqb d 64)
+  where
+    go : (b : Bool) → fromPlaces places (pick b [] (moving v d ∷ [])) ≡ withSources (λ move. Named (getD places v 0)) (pick b [] (moving v d ∷ []))
+    go true = refl
+    go false = refl
 
-  pub put-one : (m : List ℕ) (w : ℕ) → m ≡ written l at (moveBytes (record { vm = w; to = d })) → w ≡ v → (d ≡ 64 → ⊥) → m ≡ written l at (movesBytes (moveIn v d))
-  unfolding movesBytes
+module _ (l : List ℕ) (at v source d : ℕ) where
+  pub put-none : d ≡ 64 → at + length (moveIn v d) * writtenWidth ≤ length l → l ≡ written l at (movesBytes (moveFrom v source d))
+  unfolding movesBytes moveFrom withSources
+  put-none e h =
+      sym (ap (λ (x : Step). written l at (movesBytes (withSources (λ move. Named source) x))) (move-none v d e) ∙ written-none l at (omega arith))
+
+  pub put-one : (m : List ℕ) (w : ℕ) → m ≡ written l at (moveBytes (record { vm = w; source = Named source; to = d })) → w ≡ v → (d ≡ 64 → ⊥) →
+      m ≡ written l at (movesBytes (moveFrom v source d))
+  unfolding movesBytes moveFrom withSources
   put-one m w f g e =
-      f ∙ ap (λ (u : ℕ). written l at (moveBytes (moving u d))) g ∙ ap (written l at) (sym (append-nil (moveBytes (moving v d)))) ∙
-      ap (λ (x : Step). written l at (movesBytes x)) (sym (move-one v d e))
+      let one : Move = record { vm = v; source = Named source; to = d } in
+      f ∙ ap (λ (u : ℕ). written l at (moveBytes (record { vm = u; source = Named source; to = d }))) g ∙ ap (written l at) (sym (append-nil (moveBytes one))) ∙
+      ap (λ (x : Step). written l at (movesBytes (withSources (λ move. Named source) x))) (sym (move-one v d e))
 
 pub count-none : (n v d : ℕ) → d ≡ 64 → n ≡ n + length (moveIn v d)
 count-none n v d e = rw (move-none v d e) (omega arith)
@@ -144,31 +156,36 @@ count-none n v d e = rw (move-none v d e) (omega arith)
 pub count-one : (n v d : ℕ) → (d ≡ 64 → ⊥) → n + 1 ≡ n + length (moveIn v d)
 count-one n v d e = rw (move-one v d e) (omega arith)
 
-pub room-one : (at n v d size : ℕ) → (d ≡ 64 → ⊥) → at + 2 + n * 2 + length (moveIn v d) * 2 ≤ size → at + 2 + n * 2 + 2 ≤ size
+pub room-one : (at n v d size : ℕ) → (d ≡ 64 → ⊥) → at + 2 + n * writtenWidth + length (moveIn v d) * writtenWidth ≤ size → at + 2 + n * writtenWidth + writtenWidth ≤ size
 room-one at n v d size e h = let m = ap length (move-one v d e) in omega arith
 
 -- the moves of the VMs so far
-module _ (before out dests : List ℕ) (at n v vms : ℕ) (o : out ≡ written before (at + 2) (movesBytes (movesIn dests 0 v))) (c : n ≡ length (movesIn dests 0 v))
-    (room : at + 2 + length (movesIn dests 0 vms) * 2 ≤ length before) (h : v < vms) where
-  put-fits : at + 2 + length (movesBytes (movesIn dests 0 v)) + length (movesBytes (moveIn v (getD dests v 0))) ≤ length before
+module _ (before out places dests : List ℕ) (at n v vms : ℕ) (o : out ≡ written before (at + 2) (movesBytes (fromPlaces places (movesIn dests 0 v))))
+    (c : n ≡ length (movesIn dests 0 v)) (room : at + 2 + length (movesIn dests 0 vms) * writtenWidth ≤ length before) (h : v < vms) where
+  put-fits : at + 2 + length (movesBytes (fromPlaces places (movesIn dests 0 v))) + length (movesBytes (fromPlaces places (moveIn v (getD dests v 0)))) ≤ length before
   put-fits =
-      let a = moves-length (movesIn dests 0 v) in let b = moves-length (moveIn v (getD dests v 0)) in let m = moves-room dests vms v h in
+      let a = from-size places (movesIn dests 0 v) in let b = from-size places (moveIn v (getD dests v 0)) in let m = moves-room dests vms v h in
       omega arith
 
   out-length : length out ≡ length before
-  out-length = let f = put-fits in ap length o ∙ written-length before (at + 2) (movesBytes (movesIn dests 0 v)) (omega arith)
+  out-length = let f = put-fits in ap length o ∙ written-length before (at + 2) (movesBytes (fromPlaces places (movesIn dests 0 v))) (omega arith)
 
-  pub put-room : (d : ℕ) → d ≡ getD dests v 0 → at + 2 + n * 2 + length (moveIn v d) * 2 ≤ length out
+  pub put-room : (d : ℕ) → d ≡ getD dests v 0 → at + 2 + n * writtenWidth + length (moveIn v d) * writtenWidth ≤ length out
   put-room d e = let l = out-length in let m = moves-room dests vms v h in rw e (omega arith)
 
-  pub put-more : (next : List ℕ) (d : ℕ) → d ≡ getD dests v 0 → next ≡ written out (at + 2 + n * 2) (movesBytes (moveIn v d)) →
-      next ≡ written before (at + 2) (movesBytes (movesIn dests 0 (v + 1)))
-  put-more next d e f =
-      let a = moves-length (movesIn dests 0 v) in
-      let p : at + 2 + n * 2 ≡ at + 2 + length (movesBytes (movesIn dests 0 v)) = omega arith in
-      f ∙ rw (p, o, e)
-      (written-next before (at + 2) (movesBytes (movesIn dests 0 v)) (movesBytes (moveIn v (getD dests v 0))) put-fits ∙
-      ap (written before (at + 2)) (sym (ap movesBytes (moves-snoc dests v) ∙ bytes-append (movesIn dests 0 v) (moveIn v (getD dests v 0)))))
+  pub put-more : (next : List ℕ) (source d : ℕ) → d ≡ getD dests v 0 → source ≡ getD places v 0 → next ≡ written out (at + 2 + n * writtenWidth) (movesBytes (moveFrom v source d)) →
+      next ≡ written before (at + 2) (movesBytes (fromPlaces places (movesIn dests 0 (v + 1))))
+  put-more next source d e g f =
+      let a = from-size places (movesIn dests 0 v) in
+      let p : at + 2 + n * writtenWidth ≡ at + 2 + length (movesBytes (fromPlaces places (movesIn dests 0 v))) = omega arith in
+      f ∙ rw (p, o, e, g, ← from-one places v (getD dests v 0))
+      (written-next before (at + 2) (movesBytes (fromPlaces places (movesIn dests 0 v))) (movesBytes (fromPlaces places (moveIn v (getD dests v 0)))) put-fits ∙
+      ap (written before (at + 2)) (sym more-bytes))
+    where
+      more-bytes : movesBytes (fromPlaces places (movesIn dests 0 (v + 1))) ≡ movesBytes (fromPlaces places (movesIn dests 0 v)) ++ movesBytes (fromPlaces places (moveIn v (getD dests v 0)))
+      more-bytes =
+          ap (λ (x : Step). movesBytes (fromPlaces places x)) (moves-snoc dests v) ∙ ap movesBytes (from-append places (movesIn dests 0 v) (moveIn v (getD dests v 0))) ∙
+          bytes-append (fromPlaces places (movesIn dests 0 v)) (fromPlaces places (moveIn v (getD dests v 0)))
 
   pub put-count : (m d : ℕ) → d ≡ getD dests v 0 → m ≡ n + length (moveIn v d) → m ≡ length (movesIn dests 0 (v + 1))
   put-count m d e f =
@@ -176,17 +193,17 @@ module _ (before out dests : List ℕ) (at n v vms : ℕ) (o : out ≡ written b
       let b : m ≡ n + length (moveIn v (getD dests v 0)) = f ∙ ap (λ (x : ℕ). n + length (moveIn v x)) e in
       omega arith
 
-pub put-start : (l dests : List ℕ) (at k : ℕ) → at + 2 + k * 2 ≤ length l → l ≡ written l (at + 2) (movesBytes (movesIn dests 0 0))
-unfolding movesIn movesBytes
-put-start l dests at k h = sym (written-none l (at + 2) (omega arith))
+pub put-start : (l places dests : List ℕ) (at k : ℕ) → at + 2 + k * writtenWidth ≤ length l → l ≡ written l (at + 2) (movesBytes (fromPlaces places (movesIn dests 0 0)))
+unfolding movesIn movesBytes fromPlaces withSources
+put-start l places dests at k h = sym (written-none l (at + 2) (omega arith))
 
 -- all of them
-module _ (before out dests : List ℕ) (at v vms : ℕ) (h : v ≤ vms) (k : vms ≤ v) where
+module _ (before out places dests : List ℕ) (at v vms : ℕ) (h : v ≤ vms) (k : vms ≤ v) where
   all-done : v ≡ vms
   all-done = omega arith
 
-  pub put-end : out ≡ written before (at + 2) (movesBytes (movesIn dests 0 v)) → out ≡ written before (at + 2) (movesBytes (movesIn dests 0 vms))
-  put-end o = o ∙ ap (λ (i : ℕ). written before (at + 2) (movesBytes (movesIn dests 0 i))) all-done
+  pub put-end : out ≡ written before (at + 2) (movesBytes (fromPlaces places (movesIn dests 0 v))) → out ≡ written before (at + 2) (movesBytes (fromPlaces places (movesIn dests 0 vms)))
+  put-end o = o ∙ ap (λ (i : ℕ). written before (at + 2) (movesBytes (fromPlaces places (movesIn dests 0 i)))) all-done
 
   pub count-end : (n : ℕ) → n ≡ length (movesIn dests 0 v) → n ≡ length (movesIn dests 0 vms)
   count-end n c = c ∙ ap (λ (i : ℕ). length (movesIn dests 0 i)) all-done

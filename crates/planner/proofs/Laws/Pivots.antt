@@ -82,6 +82,7 @@ pub record IsPivot (room : Room) (places : Placement) (move : Move) (moves : Ste
   pub only : moves ≡ []
   pub helps : useful room places (move .vm) (move .to) ≡ true
   pub there : move .vm < length (room .vms)
+  pub unnamed : move ≡ moving (move .vm) (move .to)
 
 -- ---- the pivots of one VM
 
@@ -113,7 +114,7 @@ module _ (room : Room) (places : Placement) (v : ℕ) where
           (pivotAmong room places v ds ≡ move ∷ moves → IsPivot room places move moves) → IsPivot room places move moves
       go true u e later =
           let m : move ≡ moving v d = cc in
-          record { only = cc; helps = rw m u; there = rw m (sound-alone room places v d (useful-sound room places v d u) .vm-there) }
+          record { only = cc; helps = rw m u; there = rw m (sound-alone room places v d (useful-sound room places v d u) .vm-there); unnamed = rw m refl }
       go false u e later = later e
 
   -- nothing is picked exactly if no pivot is useful
@@ -157,7 +158,7 @@ module _ (room : Room) (places : Placement) where
       go [] e = empty-sound room places
       go (move ∷ moves) e =
           let p = pivot-is move moves e in
-          rw (p .only) (useful-sound room places (move .vm) (move .to) (p .helps))
+          rw (p .only) (ap (λ (m : Move). soundStep room places (m ∷ [])) (p .unnamed) ∙ useful-sound room places (move .vm) (move .to) (p .helps))
 
   -- no pivot is picked exactly if none is useful
   first-none : (vs : List ℕ) → pivotFirst room places vs ≡ [] → all (λ v. all (λ d. not (useful room places v d)) (nodesIn room)) vs ≡ true

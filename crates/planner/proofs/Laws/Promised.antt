@@ -9,20 +9,21 @@ use lib.ListN.{length, take, drop}
 use lib.Seq.{take-at}
 use lib.Dec.{ltb, eqb}
 use borrow.Author.Tests.{le-ltb, not-true, ltb-false, not-false, ne-eqb, eqb-false}
-use Rattle.records.specs.Base.{pick}
+use Rattle.records.specs.Base.{pick, all}
 use Rattle.records.specs.Bytes.{be32, bytes16, bytes32, AreBytes}
 use Rattle.records.specs.Room.{Room, roomOf, clusterCheck}
-use Rattle.records.specs.Plan.{Step, moveTotal, stepsOf, shaped, planCheck, stepsBytes, headerBytes, planBytes}
+use Rattle.records.specs.Plan.{Step, versionOf, moveTotal, stepsOf, shaped, planCheck, stepsBytes, headerBytes, planBytes}
+use Rattle.records.specs.Inner.{tellsSources}
 use Rattle.records.specs.declared.faults.ClusterCheck.{ClusterCheck}
 use Rattle.records.proofs.Laws.Cluster.{vms-most, vms-count}
-use Rattle.records.proofs.Laws.RoundTrip.{plan-length, plan-size, plan-whole, steps-of-plan, header-is, be32-back}
+use Rattle.records.proofs.Laws.RoundTrip.{plan-length, plan-size, plan-whole, version-is, steps-of-plan, header-is, be32-back}
 use Rattle.rules.specs.Moments.{Placement, placeOf, currentOf, targetOf, after}
 use Rattle.rules.specs.Orders.{Run}
 use Rattle.rules.specs.Rules.{targetCheck}
 use Rattle.rules.specs.Cost.{costOf}
 use Rattle.rules.specs.Verdict.{home, verdictOf, packed}
 use Rattle.rules.specs.Returned.{SaysGood, SaysBlocked}
-use Rattle.rules.specs.Promises.{afterAll, namedAll, soundAll, Shaped, EveryRun, EndsAway, Checked}
+use Rattle.rules.specs.Promises.{afterAll, namedAll, sourcedAll, soundAll, Shaped, EveryRun, EndsAway, Checked}
 use Rattle.rules.specs.declared.faults.TargetCheck.{TargetCheck}
 use Rattle.rules.specs.declared.faults.Fault.{Fault}
 use Rattle.rules.specs.declared.faults.Verdict.{Verdict}
@@ -30,6 +31,7 @@ use Rattle.rules.proofs.Laws.Contract.{contract}
 use Rattle.rules.proofs.Laws.Costs.{cost-low}
 use Rattle.rules.proofs.Laws.Returned.{says-accepted, says-refused}
 use Rattle.rules.proofs.Laws.Runs.{sound-all-named, run-ends, run-obeys, sound-orders, stays-within}
+use Rattle.rules.proofs.Laws.Sources.{names-places}
 use Rattle.rules.proofs.Laws.Spreads.{stays-apart}
 use Rattle.rules.proofs.Laws.Verdicts.{current-length, off-some, off-home}
 use Rattle.planner.specs.Picks.{away, directStep, pivotStep, orElse, nextStep, Picks}
@@ -40,8 +42,9 @@ use Rattle.planner.specs.declared.answer.Made.{Made}
 use Rattle.planner.specs.declared.answer.BuildFault.{BuildFault}
 use Rattle.planner.specs.declared.answer.Answer.{Answer}
 use Rattle.planner.specs.declared.answer.Answer.the-variants.{Plan, Blocked, Refused}
-use Rattle.planner.proofs.Laws.Budget.{not-empty, budget, budget-none, budget-most, budget-511, picks-steps, picks-sound, picks-ends, picks-moves, picks-count, picks-shaped}
+use Rattle.planner.proofs.Laws.Budget.{not-empty, budget, budget-none, budget-most, budget-511, picks-steps, picks-sound, picks-sourced, picks-tell, picks-ends, picks-moves, picks-count, picks-shaped}
 use Rattle.planner.proofs.Laws.Direct.{direct-none}
+use Rattle.planner.proofs.Laws.Naming.{from-empty}
 use Rattle.planner.proofs.Laws.Packing.{tells-answer, says-plan, says-blocked, blocked-says}
 use Rattle.planner.proofs.Laws.Pivots.{no-pivot}
 
@@ -51,7 +54,7 @@ use Rattle.planner.proofs.Laws.Pivots.{no-pivot}
 pub rest-stuck : (room : Room) (places : Placement) → nextStep room places ≡ [] → home room places ≡ false → Stuck room places
 unfolding nextStep orElse away
 rest-stuck room places e h =
-    let b = both (directStep room places) (pivotStep room places) e in
+    let b = both (directStep room places) (pivotStep room places) (from-empty places (orElse (directStep room places) (pivotStep room places)) e) in
     let w = off-some room places h in
     record {
       lost = (w .0, w .1, ap not (ne-eqb (placeOf places (w .0)) (placeOf (targetOf room) (w .0)) (w .2)));
@@ -71,17 +74,17 @@ stuck-away room places s =
 
 -- ---- the record at the front of a buffer
 
-stated : (steps : List Step) (rest : List ℕ) → shaped steps ≡ true → be32 (planBytes steps ++ rest) 1 ≡ length (planBytes steps)
+stated : (steps : List Step) (rest : List ℕ) → all tellsSources steps ≡ true → shaped steps ≡ true → be32 (planBytes steps ++ rest) 1 ≡ length (planBytes steps)
 unfolding planBytes headerBytes bytes32 bytes16
-stated steps rest z =
-    let a = plan-size steps z in
+stated steps rest m z =
+    let a = plan-size steps m z in
     let n : length (planBytes steps) ≡ 7 + length (stepsBytes steps) = omega arith in
     be32-back (planBytes steps ++ rest) (bytes16 (length steps) ++ (stepsBytes steps ++ rest)) 1 (7 + length (stepsBytes steps)) (omega arith) refl ∙ sym n
 
-front-is : (steps : List Step) (rest : List ℕ) → shaped steps ≡ true → frontOf (planBytes steps ++ rest) ≡ planBytes steps
+front-is : (steps : List Step) (rest : List ℕ) → all tellsSources steps ≡ true → shaped steps ≡ true → frontOf (planBytes steps ++ rest) ≡ planBytes steps
 unfolding frontOf
-front-is steps rest z =
-    ap (λ (n : ℕ). take n (planBytes steps ++ rest)) (stated steps rest z) ∙ take-at (planBytes steps) rest (length (planBytes steps)) refl
+front-is steps rest m z =
+    ap (λ (n : ℕ). take n (planBytes steps ++ rest)) (stated steps rest m z) ∙ take-at (planBytes steps) rest (length (planBytes steps)) refl
 
 -- ---- the cases of an answer
 
@@ -141,6 +144,12 @@ module _ (cluster before : List ℕ) (t : Taken cluster before) where
   steps-sound : soundAll (roomOf cluster) (currentOf (roomOf cluster)) (stepsFor (roomOf cluster)) ≡ true
   steps-sound = picks-sound (roomOf cluster) (currentOf (roomOf cluster)) (stepsFor (roomOf cluster)) picks-are
 
+  steps-sourced : sourcedAll (currentOf (roomOf cluster)) (stepsFor (roomOf cluster)) ≡ true
+  steps-sourced = picks-sourced (roomOf cluster) (currentOf (roomOf cluster)) (stepsFor (roomOf cluster)) picks-are
+
+  steps-tell : all tellsSources (stepsFor (roomOf cluster)) ≡ true
+  steps-tell = picks-tell (roomOf cluster) (currentOf (roomOf cluster)) (stepsFor (roomOf cluster)) picks-are
+
   steps-shaped : shaped (stepsFor (roomOf cluster)) ≡ true
   steps-shaped = picks-shaped (roomOf cluster) few (currentOf (roomOf cluster)) (stepsFor (roomOf cluster)) (current-length (roomOf cluster)) picks-are
 
@@ -163,19 +172,22 @@ module _ (cluster before : List ℕ) (t : Taken cluster before) where
   written-for : (plan : List ℕ) → plan ≡ planBytes (stepsFor (roomOf cluster)) → Written cluster plan (madeOf (roomOf cluster) (stepsFor (roomOf cluster)))
   unfolding madeOf
   written-for plan p =
-      let e : stepsOf plan ≡ stepsFor (roomOf cluster) = ap stepsOf p ∙ steps-of-plan (stepsFor (roomOf cluster)) steps-shaped in
+      let e : stepsOf plan ≡ stepsFor (roomOf cluster) = ap stepsOf p ∙ steps-of-plan (stepsFor (roomOf cluster)) steps-tell steps-shaped in
       let m = moves-few in let n = steps-few in let k = moves-511 in
       record {
         picks = rw e picks-are;
         named = rw e (sound-all-named (roomOf cluster) (currentOf (roomOf cluster)) (stepsFor (roomOf cluster)) steps-sound);
+        well-sourced = rw e steps-sourced;
         obeys = rw e (λ last run. run-obeys steps-sound (current-length (roomOf cluster)) run);
         reaches = rw e (λ last run. ends-there run);
         auditor = rw e (stays-within (roomOf cluster) (currentOf (roomOf cluster)) (stepsFor (roomOf cluster)) steps-sound (current-length (roomOf cluster)));
         apart = rw e (stays-apart (roomOf cluster) (currentOf (roomOf cluster)) (stepsFor (roomOf cluster)) steps-sound (current-length (roomOf cluster)));
         none = λ z. e ∙ empty (stepsFor (roomOf cluster)) (let b = budget-none (roomOf cluster) (currentOf (roomOf cluster)) z in omega arith);
         short = λ z. rw e (let b = budget-most (roomOf cluster) (currentOf (roomOf cluster)) z in omega arith);
+        version = ap versionOf p ∙ version-is (stepsFor (roomOf cluster)) steps-tell steps-shaped;
+        sources = rw e (names-places (roomOf cluster) (currentOf (roomOf cluster)) (stepsFor (roomOf cluster)) (current-length (roomOf cluster)) steps-sound steps-sourced steps-tell);
         header = λ z. p ∙ ap planBytes (sym e ∙ z) ∙ header-is;
-        small = rw p (let l = plan-length (stepsFor (roomOf cluster)) in omega arith);
+        small = rw p (let l = plan-length (stepsFor (roomOf cluster)) steps-tell in omega arith);
         steps = rw e;
         moves = rw e;
         cost = rw e;
@@ -206,8 +218,8 @@ module _ (cluster before : List ℕ) (t : Taken cluster before) where
   -- its buffer
   front-for : (a : Answer) (out : List ℕ) → refuses a ≡ false → out ≡ bufferOf a (planBytes (stepsFor (roomOf cluster))) before → frontOf out ≡ planBytes (stepsFor (roomOf cluster))
   unfolding bufferOf
-  front-for (Plan made) out r e = ap frontOf e ∙ front-is (stepsFor (roomOf cluster)) (drop (length (planBytes (stepsFor (roomOf cluster)))) before) steps-shaped
-  front-for (Blocked made) out r e = ap frontOf e ∙ front-is (stepsFor (roomOf cluster)) (drop (length (planBytes (stepsFor (roomOf cluster)))) before) steps-shaped
+  front-for (Plan made) out r e = ap frontOf e ∙ front-is (stepsFor (roomOf cluster)) (drop (length (planBytes (stepsFor (roomOf cluster)))) before) steps-tell steps-shaped
+  front-for (Blocked made) out r e = ap frontOf e ∙ front-is (stepsFor (roomOf cluster)) (drop (length (planBytes (stepsFor (roomOf cluster)))) before) steps-tell steps-shaped
   front-for (Refused fault) out r e = absurd (false≢true (sym r))
 
   rests : nextStep (roomOf cluster) (afterAll (currentOf (roomOf cluster)) (stepsFor (roomOf cluster))) ≡ []
@@ -215,7 +227,7 @@ module _ (cluster before : List ℕ) (t : Taken cluster before) where
 
   module _ (bytes : AreBytes cluster) (made : Made) (plan : List ℕ) (p : plan ≡ planBytes (stepsFor (roomOf cluster))) where
     plan-steps : stepsOf plan ≡ stepsFor (roomOf cluster)
-    plan-steps = ap stepsOf p ∙ steps-of-plan (stepsFor (roomOf cluster)) steps-shaped
+    plan-steps = ap stepsOf p ∙ steps-of-plan (stepsFor (roomOf cluster)) steps-tell steps-shaped
 
     written-made : madeOf (roomOf cluster) (stepsFor (roomOf cluster)) ≡ made → Written cluster plan made
     written-made m = rw (← m) (written-for plan p)
@@ -225,7 +237,7 @@ module _ (cluster before : List ℕ) (t : Taken cluster before) where
     whole = record {
       cluster-whole = t .cluster-whole;
       target-good = t .target-good;
-      plan-whole = ap planCheck p ∙ plan-whole (stepsFor (roomOf cluster)) steps-shaped;
+      plan-whole = ap planCheck p ∙ plan-whole (stepsFor (roomOf cluster)) steps-tell steps-shaped;
     }
 
     checks : Checked cluster plan (packed (verdictOf cluster plan))
@@ -234,7 +246,7 @@ module _ (cluster before : List ℕ) (t : Taken cluster before) where
     accepted-is : EveryRun (roomOf cluster) (currentOf (roomOf cluster)) (stepsOf plan) → verdictOf cluster plan ≡ Verdict.Accepted (costOf (roomOf cluster) (stepsOf plan))
     accepted-is runs =
         let names : namedAll (roomOf cluster) (currentOf (roomOf cluster)) (stepsOf plan) ≡ true = written-for plan p .named in
-        let good = checks .exact whole names .1 runs in
+        let good = checks .exact whole names (written-for plan p .well-sourced) .1 runs in
         says-accepted (packed (verdictOf cluster plan)) (verdictOf cluster plan) (checks .told) good ∙ ap Verdict.Accepted (checks .cost good)
 
     refused-is : EndsAway (roomOf cluster) (currentOf (roomOf cluster)) (stepsOf plan) → verdictOf cluster plan ≡ Verdict.Refused Fault.OffTarget
@@ -261,6 +273,7 @@ module _ (cluster before : List ℕ) (t : Taken cluster before) where
           written = w;
           refused = refused-is (rw plan-steps (record {
             sound = steps-sound;
+            well-sourced = steps-sourced;
             obeys = λ last run. run-obeys steps-sound (current-length (roomOf cluster)) run;
             away = λ last run. off-some (roomOf cluster) last (ap (home (roomOf cluster)) (ends-there run) ∙ h);
           }));
@@ -271,15 +284,15 @@ module _ (cluster before : List ℕ) (t : Taken cluster before) where
   unfolding madeOf
   made-packs bytes =
       let m = moves-511 in let n = steps-few in
-      let e = steps-of-plan (stepsFor (roomOf cluster)) steps-shaped in
-      (omega arith, omega arith, rw e at (cost-low cluster (planBytes (stepsFor (roomOf cluster))) bytes (plan-whole (stepsFor (roomOf cluster)) steps-shaped)))
+      let e = steps-of-plan (stepsFor (roomOf cluster)) steps-tell steps-shaped in
+      (omega arith, omega arith, rw e at (cost-low cluster (planBytes (stepsFor (roomOf cluster))) bytes (plan-whole (stepsFor (roomOf cluster)) steps-tell steps-shaped)))
 
   -- blocked means stuck
   blocked-is : (plan : List ℕ) → plan ≡ planBytes (stepsFor (roomOf cluster)) →
       ((made : Made) × (answerOf cluster (length before) ≡ Blocked made)) ↔ Stuck (roomOf cluster) (afterAll (currentOf (roomOf cluster)) (stepsOf plan))
   unfolding outcome
   blocked-is plan p =
-      rw (ap stepsOf p ∙ steps-of-plan (stepsFor (roomOf cluster)) steps-shaped) (
+      rw (ap stepsOf p ∙ steps-of-plan (stepsFor (roomOf cluster)) steps-tell steps-shaped) (
         (λ b. rest-stuck (roomOf cluster) (afterAll (currentOf (roomOf cluster)) (stepsFor (roomOf cluster))) rests
             (not-true (home (roomOf cluster) (afterAll (currentOf (roomOf cluster)) (stepsFor (roomOf cluster)))) (sym blocks-is ∙ ap blocks (b .1)))),
         (λ s. (madeOf (roomOf cluster) (stepsFor (roomOf cluster)), taken-answer ∙ rw (stuck-away (roomOf cluster) (afterAll (currentOf (roomOf cluster)) (stepsFor (roomOf cluster))) s))),

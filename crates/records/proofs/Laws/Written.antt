@@ -8,7 +8,8 @@ use native.Mathlib.Omega.{arith}
 use lib.ListN.{length, getD, set, take, drop, length-append, length-take, length-drop}
 use lib.Seq.{sets, sets-eq, length-take-le, take-append-le, drop-append-le, drop-append-add, take-at, drop-at, drop-drop, take-take}
 use Rattle.records.specs.Bytes.{bytes16, bytes32}
-use Rattle.records.specs.Plan.{Move, moveBytes, headerBytes, written}
+use Rattle.records.specs.Plan.{Move, sourceBytes, moveBytes, headerBytes, writtenVersion, writtenWidth, written}
+use Rattle.records.specs.declared.plan.Source.the-variants.{Named}
 
 -- single stores, one behind the other
 pub sets-written : (l : List ℕ) (at : ℕ) (bytes : List ℕ) → at + length bytes ≤ length l → sets l at bytes ≡ written l at bytes
@@ -16,9 +17,10 @@ unfolding written
 sets-written l at bytes h = sets-eq bytes l at h ∙ append-assoc (take at l) bytes (drop (at + length bytes) l)
 
 module _ (l : List ℕ) (at : ℕ) where
-  pub move-written : (vm to : ℕ) → at + 2 ≤ length l → set (set l at vm) (at + 1) to ≡ written l at (moveBytes (record { vm = vm; to = to }))
-  unfolding moveBytes
-  move-written vm to h = rw add-one (sets-written l at (vm ∷ to ∷ []) h)
+  pub move-written : (vm source to : ℕ) → at + writtenWidth ≤ length l →
+      set (set (set l at vm) (at + 1) source) (at + 2) to ≡ written l at (moveBytes (record { vm = vm; source = Named source; to = to }))
+  unfolding moveBytes sourceBytes
+  move-written vm source to h = rw (add-one at, add-two at) (sets-written l at (vm ∷ source ∷ to ∷ []) h)
 
   pub two-written : (x : ℕ) → at + 2 ≤ length l → set (set l at (x / 256 % 256)) (at + 1) (x % 256) ≡ written l at (bytes16 x)
   unfolding bytes16
@@ -108,12 +110,12 @@ written-zero l bytes = ap (λ (n : ℕ). bytes ++ drop n l) (zero-add (length by
 
 -- the header, written from its end
 pub header-written : (l m n : List ℕ) (end steps : ℕ) → m ≡ written l 5 (bytes16 steps) → n ≡ written m 1 (bytes32 end) → 7 ≤ length l →
-    set n 0 1 ≡ written l 0 (headerBytes end steps)
+    set n 0 writtenVersion ≡ written l 0 (headerBytes writtenVersion end steps)
 unfolding headerBytes bytes16 bytes32
 header-written l m n end steps e f h =
-    sets-written n 0 (1 ∷ []) (rw nl (omega arith)) ∙
-    ap (λ (x : List ℕ). written x 0 (1 ∷ [])) nm ∙
-    written-earlier l 0 (1 ∷ []) (bytes32 end ++ bytes16 steps) h
+    sets-written n 0 (writtenVersion ∷ []) (rw nl (omega arith)) ∙
+    ap (λ (x : List ℕ). written x 0 (writtenVersion ∷ [])) nm ∙
+    written-earlier l 0 (writtenVersion ∷ []) (bytes32 end ++ bytes16 steps) h
   where
     ml : length m ≡ length l
     ml = ap length e ∙ written-length l 5 (bytes16 steps) h

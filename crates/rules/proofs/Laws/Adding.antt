@@ -11,6 +11,7 @@ use borrow.Author.Tests.{ltb-true, eqb-true, eqb-false, not-true, lt-ltb, eq-eqb
 use Rattle.records.specs.Base.{pick, all}
 use Rattle.records.specs.Room.{Constraint, ban, fence, spread, latency, has, Room, vmOf, nodeOf}
 use Rattle.records.specs.Plan.{Move, Step, noMove, moveOf}
+use Rattle.records.specs.declared.plan.Source.the-variants.{Unnamed}
 use Rattle.records.proofs.Laws.Bools.{and-left, and-right, and-both, bool-iff, all-head, all-tail, all-at, all-append}
 use Rattle.rules.specs.Moments.{Placement, placeOf, within, withVm, Phase, idle, waiting, Cell, cell, Moment, numberOf, countsOn, tallyAt, phaseOf, cellsFrom, firstMoment, begun, allRunning}
 use Rattle.rules.specs.Orders.{spreads, some, mates, meetsMate}
@@ -19,9 +20,9 @@ use Rattle.rules.proofs.Laws.Orders.{named-least, named-vm, named-node,
 use Rattle.rules.proofs.Laws.Sound.{sound-named, sound-permitted, sound-fitting, sound-unmet, sound-tests, all-more}
 use Rattle.rules.proofs.Laws.Meet.{all-intro}
 
--- a step with one move more
+-- a step with one move more, which names no source
 abbrev pub longer : Step → ℕ → ℕ → Step
-longer step v d = step ++ (record { vm = v; to = d } ∷ [])
+longer step v d = step ++ (record { vm = v; source = Unnamed; to = d } ∷ [])
 
 -- ---- being mates is symmetric
 
@@ -42,13 +43,13 @@ mates-sym room v w = ap₂ (λ (a b : Bool). not a && b) (eqb-sym v w) (spreads-
 
 -- ---- the phases of the longer step
 
-pub phase-other : (step : Step) (v d w : ℕ) → (v ≡ w → ⊥) → phaseOf (step ++ (record { vm = v; to = d } ∷ [])) w ≡ phaseOf step w
+pub phase-other : (step : Step) (v d w : ℕ) → (v ≡ w → ⊥) → phaseOf (step ++ (record { vm = v; source = Unnamed; to = d } ∷ [])) w ≡ phaseOf step w
 unfolding phaseOf
 phase-other [] v d w h = rw (ne-eqb v w h)
 phase-other (move ∷ moves) v d w h = ap (pick (eqb (move .vm) w) (waiting (move .to))) (phase-other moves v d w h)
 
 pub phase-own : (step : Step) (v d : ℕ) → all (λ move. ltb (move .vm) v) step ≡ true →
-    phaseOf (step ++ (record { vm = v; to = d } ∷ [])) v ≡ waiting d
+    phaseOf (step ++ (record { vm = v; source = Unnamed; to = d } ∷ [])) v ≡ waiting d
 unfolding phaseOf
 phase-own [] v d a = rw (eq-eqb v v refl)
 phase-own (move ∷ moves) v d a =
@@ -167,20 +168,20 @@ some-at q places step w e k (suc n) l h = go (eqb k w) refl (λ m. some-at q pla
 
 module _ (room : Room) (places : Placement) (step : Step) (v d : ℕ) (a : all (λ move. ltb (move .vm) v) step ≡ true) (t : v < length (room .vms)) where
   -- v is one VM more that counts on d
-  pub meets-added : (w e : ℕ) → meetsMate room (allRunning (firstMoment room places (step ++ (record { vm = v; to = d } ∷ [])))) w e ≡
+  pub meets-added : (w e : ℕ) → meetsMate room (allRunning (firstMoment room places (step ++ (record { vm = v; source = Unnamed; to = d } ∷ [])))) w e ≡
       (meetsMate room (allRunning (firstMoment room places step)) w e || (mates room w v && eqb d e))
   unfolding meetsMate firstMoment
   meets-added w e = some-added places step v d a (mates room w) e 0 (length (room .vms)) (omega arith) (omega arith)
 
   -- its own test is the same before and after
-  pub meets-own : meetsMate room (allRunning (firstMoment room places (step ++ (record { vm = v; to = d } ∷ [])))) v d ≡
+  pub meets-own : meetsMate room (allRunning (firstMoment room places (step ++ (record { vm = v; source = Unnamed; to = d } ∷ [])))) v d ≡
       meetsMate room (allRunning (firstMoment room places step)) v d
   meets-own =
       meets-added v d ∙ ap (λ (b : Bool). meetsMate room (allRunning (firstMoment room places step)) v d || (b && eqb d d)) (not-own-mate room v) ∙
       or-false (meetsMate room (allRunning (firstMoment room places step)) v d)
 
   module _ (o : d ≡ placeOf places v → ⊥) where
-    pub memory-added : (e : ℕ) → tallyAt room e (allRunning (firstMoment room places (step ++ (record { vm = v; to = d } ∷ [])))) .memory ≡
+    pub memory-added : (e : ℕ) → tallyAt room e (allRunning (firstMoment room places (step ++ (record { vm = v; source = Unnamed; to = d } ∷ [])))) .memory ≡
         tallyAt room e (allRunning (firstMoment room places step)) .memory + pick (eqb d e) (vmOf room v .memory) 0
     unfolding firstMoment
     memory-added e =
@@ -188,7 +189,7 @@ module _ (room : Room) (places : Placement) (step : Step) (v d : ℕ) (a : all (
         load-added places step v d a (memoryIn room) e o 0 (length (room .vms)) (omega arith) (omega arith) ∙
         ap (λ (n : ℕ). n + pick (eqb d e) (vmOf room v .memory) 0) (sym (memory-load room e (allRunning (firstMoment room places step))))
 
-    pub cpu-added : (e : ℕ) → tallyAt room e (allRunning (firstMoment room places (step ++ (record { vm = v; to = d } ∷ [])))) .cpu ≡
+    pub cpu-added : (e : ℕ) → tallyAt room e (allRunning (firstMoment room places (step ++ (record { vm = v; source = Unnamed; to = d } ∷ [])))) .cpu ≡
         tallyAt room e (allRunning (firstMoment room places step)) .cpu + pick (eqb d e) (vmOf room v .cpu) 0
     unfolding firstMoment
     cpu-added e =
@@ -197,14 +198,14 @@ module _ (room : Room) (places : Placement) (step : Step) (v d : ℕ) (a : all (
         ap (λ (n : ℕ). n + pick (eqb d e) (vmOf room v .cpu) 0) (sym (cpu-load room e (allRunning (firstMoment room places step))))
 
     -- the destination's tally has one VM more, every other is as it was
-    pub tally-there : tallyAt room d (allRunning (firstMoment room places (step ++ (record { vm = v; to = d } ∷ [])))) ≡
+    pub tally-there : tallyAt room d (allRunning (firstMoment room places (step ++ (record { vm = v; source = Unnamed; to = d } ∷ [])))) ≡
         withVm (tallyAt room d (allRunning (firstMoment room places step))) (vmOf room v)
     tally-there i = record {
       memory = (memory-added d ∙ ap (λ (b : Bool). tallyAt room d (allRunning (firstMoment room places step)) .memory + pick b (vmOf room v .memory) 0) (eq-eqb d d refl)) i;
       cpu = (cpu-added d ∙ ap (λ (b : Bool). tallyAt room d (allRunning (firstMoment room places step)) .cpu + pick b (vmOf room v .cpu) 0) (eq-eqb d d refl)) i;
     }
 
-    pub tally-else : (e : ℕ) → (d ≡ e → ⊥) → tallyAt room e (allRunning (firstMoment room places (step ++ (record { vm = v; to = d } ∷ [])))) ≡
+    pub tally-else : (e : ℕ) → (d ≡ e → ⊥) → tallyAt room e (allRunning (firstMoment room places (step ++ (record { vm = v; source = Unnamed; to = d } ∷ [])))) ≡
         tallyAt room e (allRunning (firstMoment room places step))
     tally-else e h i = record {
       memory = (memory-added e ∙ none (tallyAt room e (allRunning (firstMoment room places step)) .memory) (vmOf room v .memory)) i;
@@ -220,16 +221,16 @@ module _ (room : Room) (places : Placement) (step : Step) (v d : ℕ) (a : all (
 named-last : (room : Room) (places : Placement) (least : ℕ) (step : Step) (v d : ℕ) → named room places least (longer step v d) ≡ true →
     (ltb v (length (room .vms)) && (ltb d (length (room .nodes)) && not (eqb d (placeOf places v)))) ≡ true
 named-last room places least [] v d e =
-    and-both (lt-ltb v (length (room .vms)) (named-vm room places least (record { vm = v; to = d }) [] e))
-    (and-both (lt-ltb d (length (room .nodes)) (named-node room places least (record { vm = v; to = d }) [] e))
-    (named-off room places least (record { vm = v; to = d }) [] e))
+    and-both (lt-ltb v (length (room .vms)) (named-vm room places least (record { vm = v; source = Unnamed; to = d }) [] e))
+    (and-both (lt-ltb d (length (room .nodes)) (named-node room places least (record { vm = v; source = Unnamed; to = d }) [] e))
+    (named-off room places least (record { vm = v; source = Unnamed; to = d }) [] e))
 named-last room places least (move ∷ moves) v d e = named-last room places (suc (move .vm)) moves v d (named-rest room places least move (longer moves v d) e)
 
 named-longer : (room : Room) (places : Placement) (least : ℕ) (step : Step) (v d : ℕ) → named room places least step ≡ true →
     all (λ move. ltb (move .vm) v) step ≡ true → least ≤ v → v < length (room .vms) → d < length (room .nodes) →
     not (eqb d (placeOf places v)) ≡ true → named room places least (longer step v d) ≡ true
 unfolding named
-named-longer room places least [] v d n a l t b o = named-cons room places least (record { vm = v; to = d }) [] l t b o refl
+named-longer room places least [] v d n a l t b o = named-cons room places least (record { vm = v; source = Unnamed; to = d }) [] l t b o refl
 named-longer room places least (move ∷ moves) v d n a l t b o =
     let h = ltb-true (move .vm) v (all-head (λ move. ltb (move .vm) v) move moves a) in
     named-cons room places least move (longer moves v d) (named-least room places least move moves n) (named-vm room places least move moves n)
@@ -291,12 +292,12 @@ arrival-met room places step v d w p h m =
 
 module _ (room : Room) (places : Placement) (step : Step) (v d : ℕ) (a : all (λ move. ltb (move .vm) v) step ≡ true) where
   -- the last move of a sound step joins the others
-  pub sound-joins : soundStep room places (step ++ (record { vm = v; to = d } ∷ [])) ≡ true → joins room places step v d ≡ true
+  pub sound-joins : soundStep room places (step ++ (record { vm = v; source = Unnamed; to = d } ∷ [])) ≡ true → joins room places step v d ≡ true
   unfolding joins permitted fitting unmet
   sound-joins s = and-both n (and-both p (and-both f u))
     where
-      last : (q : Move → Bool) → all q (longer step v d) ≡ true → q (record { vm = v; to = d }) ≡ true
-      last q e = and-right (all q step) (q (record { vm = v; to = d })) (sym (all-snoc q step (record { vm = v; to = d })) ∙ e)
+      last : (q : Move → Bool) → all q (longer step v d) ≡ true → q (record { vm = v; source = Unnamed; to = d }) ≡ true
+      last q e = and-right (all q step) (q (record { vm = v; source = Unnamed; to = d })) (sym (all-snoc q step (record { vm = v; source = Unnamed; to = d })) ∙ e)
 
       n : (ltb v (length (room .vms)) && (ltb d (length (room .nodes)) && not (eqb d (placeOf places v)))) ≡ true
       n = named-last room places 0 step v d (sound-named room places (longer step v d) s)
@@ -321,7 +322,7 @@ module _ (room : Room) (places : Placement) (step : Step) (v d : ℕ) (a : all (
           last (λ move. not (meetsMate room (allRunning (firstMoment room places (longer step v d))) (move .vm) (move .to))) (sound-unmet room places (longer step v d) s)
 
   -- a move that joins leaves the step sound
-  pub joins-sound : soundStep room places step ≡ true → joins room places step v d ≡ true → soundStep room places (step ++ (record { vm = v; to = d } ∷ [])) ≡ true
+  pub joins-sound : soundStep room places step ≡ true → joins room places step v d ≡ true → soundStep room places (step ++ (record { vm = v; source = Unnamed; to = d } ∷ [])) ≡ true
   unfolding permitted fitting unmet moveOf
   joins-sound s e = sound-tests room places (longer step v d) n p f u
     where
@@ -331,8 +332,8 @@ module _ (room : Room) (places : Placement) (step : Step) (v d : ℕ) (a : all (
       o : d ≡ placeOf places v → ⊥
       o = eqb-false d (placeOf places v) (not-true (eqb d (placeOf places v)) (j .off))
 
-      more : (q : Move → Bool) → all q step ≡ true → q (record { vm = v; to = d }) ≡ true → all q (longer step v d) ≡ true
-      more q x y = all-snoc q step (record { vm = v; to = d }) ∙ and-both x y
+      more : (q : Move → Bool) → all q step ≡ true → q (record { vm = v; source = Unnamed; to = d }) ≡ true → all q (longer step v d) ≡ true
+      more q x y = all-snoc q step (record { vm = v; source = Unnamed; to = d }) ∙ and-both x y
 
       n : named room places 0 (longer step v d) ≡ true
       n = named-longer room places 0 step v d (sound-named room places step s) a (omega arith) (j .vm-there) (j .node-there) (j .off)
@@ -379,7 +380,7 @@ module _ (room : Room) (places : Placement) (step : Step) (v d : ℕ) (a : all (
           (ap not (meets-own room places step v d a (j .vm-there) ∙ j .apart))
 
 pub adding : (room : Room) (places : Placement) (step : Step) (v d : ℕ) → soundStep room places step ≡ true → all (λ move. ltb (move .vm) v) step ≡ true →
-    soundStep room places (step ++ (record { vm = v; to = d } ∷ [])) ≡ joins room places step v d
+    soundStep room places (step ++ (record { vm = v; source = Unnamed; to = d } ∷ [])) ≡ joins room places step v d
 adding room places step v d s a =
     bool-iff (soundStep room places (longer step v d)) (joins room places step v d) (sound-joins room places step v d a) (joins-sound room places step v d a s)
 
@@ -389,7 +390,7 @@ pub empty-sound : (room : Room) (places : Placement) → soundStep room places [
 unfolding soundStep named permitted fitting unmet all
 empty-sound room places = refl
 
-pub alone : (room : Room) (places : Placement) (v d : ℕ) → soundStep room places (record { vm = v; to = d } ∷ []) ≡ joins room places [] v d
+pub alone : (room : Room) (places : Placement) (v d : ℕ) → soundStep room places (record { vm = v; source = Unnamed; to = d } ∷ []) ≡ joins room places [] v d
 unfolding all
 alone room places v d = adding room places [] v d (empty-sound room places) refl
 

@@ -1,4 +1,4 @@
--- Laws on the check of a step: each refusal 15 to 18 in its turn.
+-- Laws on the check of a step: each refusal, 15, 27, 16, 17 and 18, in its turn.
 use Prim.Native.Nat.{ℕ, zero, suc, _+_, _-_, _*_, _≤_, _<_, _^_}
 use mathlib.Core.Bool.{Bool, true, false, not, _&&_}
 use mathlib.Core.List.{List, [], _∷_}
@@ -16,15 +16,16 @@ use Rattle.records.specs.declared.faults.ClusterCheck.the-variants.{Whole}
 use Rattle.records.proofs.Laws.Cluster.{nodes-most, vms-most}
 use Rattle.records.proofs.Laws.Steps.{step-length}
 use Rattle.rules.specs.Moments.{Placement, placeOf}
-use Rattle.rules.specs.Rules.{allowed, named, permitted, fitting, unmet, stepCheck}
+use Rattle.rules.specs.Rules.{allowed, named, sourced, permitted, fitting, unmet, stepCheck}
 use Rattle.rules.specs.Inner.{held, Placed, Held, destsFrom, Ready, Loads, Aimed, Allows, Nodes, fitsIn, spreadOk, runningCheck}
-use Rattle.rules.specs.declared.faults.StepFault.the-variants.{Misnamed, Forbidden, Misfit, Mate}
+use Rattle.rules.specs.declared.faults.StepFault.the-variants.{Misnamed, Elsewhere, Forbidden, Misfit, Mate}
 use Rattle.rules.specs.declared.faults.StepCheck.{StepCheck}
-use Rattle.rules.specs.declared.faults.StepCheck.the-variants.{Sound, Faulty}
+use Rattle.rules.specs.declared.faults.StepCheck.the-variants.{Clear, Faulty}
 use Rattle.rules.specs.declared.tally.Tally.{Tally}
 use Rattle.rules.proofs.Laws.Places.{step-cons}
 use Rattle.rules.proofs.Laws.Fit.{named-is-aimed, named-ready, fitting-is, dests-most}
 use Rattle.rules.proofs.Laws.Meet.{unmet-is}
+use Rattle.rules.proofs.Laws.Sources.{sourced-held}
 
 -- ---- 16: the pass over the moves
 
@@ -115,7 +116,7 @@ module _ (s plan places : List ℕ) (at : ℕ) (h : Held s plan at places) where
         unfolding runningCheck
         running-mate p = simp (sym fits-is ∙ o, sym apart-is ∙ p)
 
-        pub running-sound : apart ≡ true → Sound ≡ runningCheck (roomOf s) (held s places) (stepAt plan at)
+        pub running-sound : apart ≡ true → Clear ≡ runningCheck (roomOf s) (held s places) (stepAt plan at)
         unfolding runningCheck
         running-sound p = simp (sym fits-is ∙ o, sym apart-is ∙ p)
 
@@ -126,14 +127,22 @@ module _ (s plan places : List ℕ) (at : ℕ) (name : Bool) (e : name ≡ named
   unfolding stepCheck
   step-misnamed o = simp (sym e ∙ o)
 
-  module _ (may : Bool) (f : may ≡ permitted (roomOf s) (stepAt plan at)) (o : name ≡ true) where
-    pub step-forbidden : may ≡ false → Faulty Forbidden ≡ stepCheck (roomOf s) (held s places) (stepAt plan at)
-    unfolding stepCheck
-    step-forbidden p = simp (sym e ∙ o, sym f ∙ p)
+  module _ (right : Bool) (x : right ≡ sourced places (stepAt plan at)) (w : clusterCheck s ≡ Whole) (o : name ≡ true) where
+    right-is : sourced (held s places) (stepAt plan at) ≡ right
+    right-is = sourced-held s places (stepAt plan at) (named-is-aimed s places (stepAt plan at) w (sym e ∙ o)) ∙ sym x
 
-    pub step-running : (r : StepCheck) → r ≡ runningCheck (roomOf s) (held s places) (stepAt plan at) → may ≡ true → r ≡ stepCheck (roomOf s) (held s places) (stepAt plan at)
-    unfolding stepCheck runningCheck
-    step-running r g p = simp (sym e ∙ o, sym f ∙ p) g
+    pub step-elsewhere : right ≡ false → Faulty Elsewhere ≡ stepCheck (roomOf s) (held s places) (stepAt plan at)
+    unfolding stepCheck
+    step-elsewhere p = simp (sym e ∙ o, right-is ∙ p)
+
+    module _ (may : Bool) (f : may ≡ permitted (roomOf s) (stepAt plan at)) (y : right ≡ true) where
+      pub step-forbidden : may ≡ false → Faulty Forbidden ≡ stepCheck (roomOf s) (held s places) (stepAt plan at)
+      unfolding stepCheck
+      step-forbidden p = simp (sym e ∙ o, right-is ∙ y, sym f ∙ p)
+
+      pub step-running : (r : StepCheck) → r ≡ runningCheck (roomOf s) (held s places) (stepAt plan at) → may ≡ true → r ≡ stepCheck (roomOf s) (held s places) (stepAt plan at)
+      unfolding stepCheck runningCheck
+      step-running r g p = simp (sym e ∙ o, right-is ∙ y, sym f ∙ p) g
 
 pub named-aims : (s plan places : List ℕ) (at : ℕ) (ok : Bool) → ok ≡ named (roomOf s) (held s places) 0 (stepAt plan at) → clusterCheck s ≡ Whole → ok ≡ true → Aimed s (stepAt plan at)
 named-aims s plan places at ok e w o = named-is-aimed s places (stepAt plan at) w (sym e ∙ o)

@@ -2,17 +2,18 @@
 -- it what follows of two calls.
 use Prim.Native.Nat.{ℕ, suc, _<_, _^_}
 use mathlib.Core.List.{List, []}
-use mathlib.Core.Logic.{_↔_, Iff·trans}
+use mathlib.Core.Logic.{_↔_, _⊎_, Iff·trans}
 use mathlib.Core.Path.{_≡_, refl, sym, ap, _∙_}
 use Rattle.records.specs.Bytes.{AreBytes}
 use Rattle.records.specs.Room.{roomOf}
 use Rattle.records.specs.Plan.{Step, stepsOf, headerBytes}
+use Rattle.records.proofs.Laws.Steps.{all-tell, none-tells}
 use Rattle.rules.specs.Moments.{Placement, currentOf}
 use Rattle.rules.specs.Rules.{stepCheck}
 use Rattle.rules.specs.Cost.{costOf}
 use Rattle.rules.specs.Verdict.{verdictOf, faultNumber, faultStep, packed}
 use Rattle.rules.specs.Returned.{toldCost, SaysGood, SaysRefused}
-use Rattle.rules.specs.Promises.{Shaped, FaultNames, FaultDestination, FaultFit, FaultMate, FirstAtFault, TellsVerdict, Checked}
+use Rattle.rules.specs.Promises.{Shaped, FaultNames, FaultSource, FaultDestination, FaultFit, FaultMate, FirstAtFault, TellsVerdict, Checked}
 use Rattle.rules.specs.declared.faults.StepFault.{StepFault}
 use Rattle.rules.specs.declared.faults.StepCheck.{StepCheck}
 use Rattle.rules.specs.declared.faults.Fault.{Fault}
@@ -20,8 +21,9 @@ use Rattle.rules.specs.declared.faults.Verdict.{Verdict}
 use Rattle.rules.proofs.Laws.Returned.{tells-accepted, tells-refused, says-accepted, accepted-says, says-refused}
 use Rattle.rules.proofs.Laws.Runs.{sound-orders, stays-within}
 use Rattle.rules.proofs.Laws.Spreads.{stays-apart}
+use Rattle.rules.proofs.Laws.Sources.{names-places, unnamed-sourced, sources-unread}
 use Rattle.rules.proofs.Laws.Costs.{cost-low}
-use Rattle.rules.proofs.Laws.Verdicts.{names-fault, destination-fault, fit-fault, mate-fault, first-fault, ends-away, current-length, accepted-steps, only-holds, exact-holds, step-refusal, end-refusal, step-most, empty-as-header}
+use Rattle.rules.proofs.Laws.Verdicts.{names-fault, source-fault, destination-fault, fit-fault, mate-fault, first-fault, ends-away, current-length, accepted-steps, only-holds, exact-holds, step-refusal, none-elsewhere, end-refusal, step-most, empty-as-header}
 
 beside : {A B C : Type 0} → A ↔ B → (C × A) ↔ (C × B)
 beside e = (λ x. (x .0, e .0 (x .1)), λ x. (x .0, e .1 (x .1)))
@@ -64,11 +66,12 @@ module _ (cluster plan : List ℕ) (b : AreBytes cluster) where
     contract = record {
       is = q;
       told = told;
-      exact = λ s n.
-          let e = exact-holds cluster plan s n in
+      exact = λ s n x.
+          let e = exact-holds cluster plan s n x in
           (λ g. e .0 (toldCost r, accepted g), λ x. let a = e .1 x in accepted-says r (verdictOf cluster plan) (a .0) told (a .1));
       only = λ g. only-holds cluster plan (toldCost r) (accepted g);
       misnamed = λ n. at-step StepFault.Misnamed n (FaultNames (roomOf cluster)) (names-fault (roomOf cluster));
+      elsewhere = λ n. at-step StepFault.Elsewhere n (FaultSource (roomOf cluster)) (source-fault (roomOf cluster));
       forbidden = λ n. at-step StepFault.Forbidden n (FaultDestination (roomOf cluster)) (destination-fault (roomOf cluster));
       misfit = λ n. at-step StepFault.Misfit n (FaultFit (roomOf cluster)) (fit-fault (roomOf cluster));
       mate = λ n. at-step StepFault.Mate n (FaultMate (roomOf cluster)) (mate-fault (roomOf cluster));
@@ -81,10 +84,17 @@ module _ (cluster plan : List ℕ) (b : AreBytes cluster) where
           stays-within (roomOf cluster) (currentOf (roomOf cluster)) (stepsOf plan) (accepted-steps cluster plan (toldCost r) (accepted g) .sound) (current-length (roomOf cluster));
       apart = λ g.
           stays-apart (roomOf cluster) (currentOf (roomOf cluster)) (stepsOf plan) (accepted-steps cluster plan (toldCost r) (accepted g) .sound) (current-length (roomOf cluster));
-      empty = λ e. rw e (empty-as-header cluster);
+      sources = λ g v.
+          let a = accepted-steps cluster plan (toldCost r) (accepted g) in
+          names-places (roomOf cluster) (currentOf (roomOf cluster)) (stepsOf plan) (current-length (roomOf cluster)) (a .sound) (a .well-sourced) (all-tell plan v);
+      unread = sources-unread (roomOf cluster);
+      unasked = λ v.
+          let x = unnamed-sourced (currentOf (roomOf cluster)) (stepsOf plan) (none-tells plan v) in
+          (x, λ n s. none-elsewhere cluster plan x n (says (Fault.Step StepFault.Elsewhere n) .0 s));
+      empty = λ e version k. rw e (empty-as-header cluster version k);
       sound = sound-orders (roomOf cluster);
     }
 
--- two calls on one cluster, with a plan of 0 bytes and with a header of 0 steps, return the same number
-pub empty-returns : (cluster : List ℕ) (r q : ℕ) → Checked cluster [] r → Checked cluster (headerBytes 7 0) q → r ≡ q
-empty-returns cluster r q c d = c .is ∙ ap packed (c .empty refl) ∙ sym (d .is)
+-- two calls on one cluster, with a plan of 0 bytes and with a header of 0 steps, of either version, return the same number
+pub empty-returns : (cluster : List ℕ) (version r q : ℕ) → (version ≡ 1) ⊎ (version ≡ 2) → Checked cluster [] r → Checked cluster (headerBytes version 7 0) q → r ≡ q
+empty-returns cluster version r q k c d = c .is ∙ ap packed (c .empty refl version k) ∙ sym (d .is)

@@ -345,7 +345,7 @@ module _ (s places : List ℕ) (step : Step) (w : clusterCheck s ≡ Whole) (n :
     clear v u hv hu m l =
         let c = vms-most s w in
         let ph = dest-phase s places step w n v (omega arith) l in
-        let q = not-true (meetsMate (roomOf s) busy v (getD (destsFrom step) v 0)) (phase-all (λ move. not (meetsMate (roomOf s) busy (move .vm) (move .to))) step v (getD (destsFrom step) v 0) o ph) in
+        let q = not-true (meetsMate (roomOf s) busy v (getD (destsFrom step) v 0)) (phase-all (λ u d. not (meetsMate (roomOf s) busy u d)) step v (getD (destsFrom step) v 0) o ph) in
         let b = busy-some (λ c. mates (roomOf s) v (numberOf c) && countsOn (getD (destsFrom step) v 0) c) places (destsFrom step) 0 (vmCount s) u q (omega arith) (omega arith) in
         sym (counts (getD (destsFrom step) v 0) u l) ∙ (simp m at b)
 

@@ -332,16 +332,16 @@ phase-waits places step v d e k (suc n) l h = go (eqb k v) refl (λ m. phase-wai
     go false t more = let q = eqb-false k v t in inr (more (omega arith))
 
 -- what holds of each move holds of the one whose phase waits
-pub phase-all : (q : Move → Bool) (step : Step) (v d : ℕ) → all q step ≡ true → phaseOf step v ≡ waiting d → q (record { vm = v; to = d }) ≡ true
+pub phase-all : (q : ℕ → ℕ → Bool) (step : Step) (v d : ℕ) → all (λ move. q (move .vm) (move .to)) step ≡ true → phaseOf step v ≡ waiting d → q v d ≡ true
 unfolding phaseOf
 phase-all q [] v d a e = never (cc)
-phase-all q (move ∷ moves) v d a e = go (eqb (move .vm) v) refl e (phase-all q moves v d (all-tail q move moves a))
+phase-all q (move ∷ moves) v d a e = go (eqb (move .vm) v) refl e (phase-all q moves v d (all-tail (λ m. q (m .vm) (m .to)) move moves a))
   where
     go : (b : Bool) → eqb (move .vm) v ≡ b → pick b (waiting (move .to)) (phaseOf moves v) ≡ waiting d →
-        (phaseOf moves v ≡ waiting d → q (record { vm = v; to = d }) ≡ true) → q (record { vm = v; to = d }) ≡ true
+        (phaseOf moves v ≡ waiting d → q v d ≡ true) → q v d ≡ true
     go true t e h =
         let f : move .to ≡ d = cc in
-        rw (← eqb-true (move .vm) v t, ← f) (all-head q move moves a)
+        rw (← eqb-true (move .vm) v t, ← f) (all-head (λ m. q (m .vm) (m .to)) move moves a)
     go false t e h = h e
 
 pub each-begin : (P : Moment → ℕ → ℕ → Type 0) (ws : Moment) →
@@ -351,8 +351,8 @@ each-begin P ws h w (next {cs = cs} {ds = ds} {a = begin v d} e o) = (h cs ds v 
 each-begin P ws h w (next {a = finish v} e o) = each-begin P ws h (onward-event w e) o
 
 module _ (room : Room) (places : Placement) (step : Step) where
-  step-begin : (q : Move → Bool) → all q step ≡ true → {cs ds : Moment} {v d : ℕ} → Onward (firstMoment room places step) cs →
-      Event cs (begin v d) ds → q (record { vm = v; to = d }) ≡ true
+  step-begin : (q : ℕ → ℕ → Bool) → all (λ move. q (move .vm) (move .to)) step ≡ true → {cs ds : Moment} {v d : ℕ} → Onward (firstMoment room places step) cs →
+      Event cs (begin v d) ds → q v d ≡ true
   unfolding firstMoment
   step-begin q a {v = v} {d = d} w e = phase-all q step v d a (waits-phase places step 0 (length (room .vms)) v d (begin-waits w e))
 
@@ -362,7 +362,7 @@ module _ (room : Room) (places : Placement) (step : Step) where
   unfolding permitted
   begins-allowed p o =
       each-begin (λ cs v d. allowed room v d ≡ true) (firstMoment room places step)
-      (λ cs ds v d. step-begin (λ move. allowed room (move .vm) (move .to)) p) (onward-self (firstMoment room places step)) o
+      (λ cs ds v d. step-begin (allowed room) p) (onward-self (firstMoment room places step)) o
 
   -- the first moment's moves go elsewhere
   pub first-travels : named room places 0 step ≡ true → all travels (firstMoment room places step) ≡ true
@@ -394,7 +394,7 @@ module _ (room : Room) (places : Placement) (step : Step) where
       fit cs ds v d w e =
           begin-fits room e (travels-onward w (first-travels n)) ∙
           within-under room (nodeOf room d) (under-busy d (onward-event w e))
-          (step-begin (λ move. within (nodeOf room (move .to)) (tallyAt room (move .to) (allRunning first))) p w e)
+          (step-begin (λ v d. within (nodeOf room d) (tallyAt room d (allRunning first))) p w e)
 
   -- 18: in every order no VM meets a mate when it begins
   pub begins-apart : unmet room places step ≡ true → {end : Moment} (o : Order (firstMoment room places step) end) →
@@ -410,7 +410,7 @@ module _ (room : Room) (places : Placement) (step : Step) where
         where
           busy : meetsMate room (allRunning first) v d ≡ false
           busy = not-true (meetsMate room (allRunning first) v d)
-              (step-begin (λ move. not (meetsMate room (allRunning first) (move .vm) (move .to))) p w e)
+              (step-begin (λ v d. not (meetsMate room (allRunning first) v d)) p w e)
 
           go : (b : Bool) → meetsMate room cs v d ≡ b → b ≡ false
           go false t = refl
@@ -477,22 +477,23 @@ begin-last (cell u p x ∷ ws) v d (inr w) =
 -- ---- a failed test shows an order
 
 -- a move that fails a test
-pub record Failing (room : Room) (step : Step) (least : ℕ) (q : Move → Bool) : Type 0 where
+pub record Failing (room : Room) (step : Step) (least : ℕ) (q : ℕ → ℕ → Bool) : Type 0 where
   pub vm : ℕ
   pub to : ℕ
   pub waits : phaseOf step vm ≡ waiting to
   pub least-is : least ≤ vm
   pub there : vm < length (room .vms)
-  pub fails : q (record { vm = vm; to = to }) ≡ false
+  pub fails : q vm to ≡ false
 
-pub failing : (room : Room) (places : Placement) (least : ℕ) (step : Step) (q : Move → Bool) →
-    named room places least step ≡ true → all q step ≡ false → Failing room step least q
+pub failing : (room : Room) (places : Placement) (least : ℕ) (step : Step) (q : ℕ → ℕ → Bool) →
+    named room places least step ≡ true → all (λ move. q (move .vm) (move .to)) step ≡ false → Failing room step least q
 unfolding all phaseOf
 failing room places least [] q n a = absurd (false≢true (sym a))
 failing room places least (move ∷ moves) q n a =
-    go (q move) refl a (failing room places (suc (move .vm)) moves q (named-rest room places least move moves n))
+    go (q (move .vm) (move .to)) refl a (failing room places (suc (move .vm)) moves q (named-rest room places least move moves n))
   where
-    go : (b : Bool) → q move ≡ b → (b && all q moves) ≡ false → (all q moves ≡ false → Failing room moves (suc (move .vm)) q) → Failing room (move ∷ moves) least q
+    go : (b : Bool) → q (move .vm) (move .to) ≡ b → (b && all (λ m. q (m .vm) (m .to)) moves) ≡ false →
+        (all (λ m. q (m .vm) (m .to)) moves ≡ false → Failing room moves (suc (move .vm)) q) → Failing room (move ∷ moves) least q
     go false t a more = record {
       vm = move .vm;
       to = move .to;
@@ -574,20 +575,20 @@ module _ (room : Room) (places : Placement) (step : Step) where
     pub some-forbidden : permitted room step ≡ false → SomeOrder room places step (λ cs v d. allowed room v d ≡ false)
     unfolding permitted
     some-forbidden p =
-        let f = failing room places 0 step (λ move. allowed room (move .vm) (move .to)) n p in
+        let f = failing room places 0 step (allowed room) n p in
         some-last (λ cs v d. allowed room v d ≡ false) (f .vm) (f .to) (last-begin (f .vm) (f .to) (f .waits) (f .there)) (f .fails)
 
     pub some-misfit : fitting room places step ≡ false → SomeOrder room places step (λ cs v d. fits room cs v d ≡ false)
     unfolding fitting
     some-misfit p =
-        let f = failing room places 0 step (λ move. within (nodeOf room (move .to)) (tallyAt room (move .to) (allRunning (firstMoment room places step)))) n p in
+        let f = failing room places 0 step (λ v d. within (nodeOf room d) (tallyAt room d (allRunning (firstMoment room places step)))) n p in
         let l = last-begin (f .vm) (f .to) (f .waits) (f .there) in
         some-last (λ cs v d. fits room cs v d ≡ false) (f .vm) (f .to) l (last-fits n (f .vm) (f .to) l ∙ f .fails)
 
     pub some-mate : unmet room places step ≡ false → SomeOrder room places step (λ cs v d. meetsMate room cs v d ≡ true)
     unfolding unmet
     some-mate p =
-        let f = failing room places 0 step (λ move. not (meetsMate room (allRunning (firstMoment room places step)) (move .vm) (move .to))) n p in
+        let f = failing room places 0 step (λ v d. not (meetsMate room (allRunning (firstMoment room places step)) v d)) n p in
         let l = last-begin (f .vm) (f .to) (f .waits) (f .there) in
         some-last (λ cs v d. meetsMate room cs v d ≡ true) (f .vm) (f .to) l
         (last-meets (f .vm) (f .to) l ∙ not-false (meetsMate room (allRunning (firstMoment room places step)) (f .vm) (f .to)) (f .fails))

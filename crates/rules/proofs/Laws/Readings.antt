@@ -8,6 +8,7 @@ use lib.Dec.{eqb}
 use Rattle.records.specs.Base.{pick, all}
 use Rattle.records.specs.Room.{Room, Vm, Node, spread, has, vmsOf, nodeOf, vmOf}
 use Rattle.records.specs.Plan.{Step}
+use Rattle.records.specs.declared.plan.Source.the-variants.{Unnamed}
 use Rattle.rules.specs.Moments.{Placement, currentOf, within, withVm, emptyTally, idle, waiting, running, ended, Cell, cell, Moment, numberOf, countsOn, tallyAt, phaseOf, cellsFrom, firstMoment, begun, allRunning}
 use Rattle.rules.specs.Orders.{fits, spreads, some, mates, meetsMate}
 use Rattle.rules.specs.Rules.{from, keepsFrom, allowed, named, permitted, fitting, unmet, soundStep}
@@ -27,7 +28,7 @@ unfoldable pub swap : ℕ → Room
 swap memory = record { nodes = node memory ∷ node memory ∷ []; vms = vm 3 0 1 ∷ vm 2 1 0 ∷ []; constraints = spread (0 ∷ 1 ∷ []) ∷ [] }
 
 unfoldable pub bothMoves : Step
-bothMoves = record { vm = 0; to = 1 } ∷ record { vm = 1; to = 0 } ∷ []
+bothMoves = record { vm = 0; source = Unnamed; to = 1 } ∷ record { vm = 1; source = Unnamed; to = 0 } ∷ []
 
 -- VM 1 runs, VM 0 is about to begin
 unfoldable pub oneRuns : Moment
@@ -38,7 +39,7 @@ unfoldable pub overfull : Room
 overfull = record { nodes = node 4 ∷ node 4 ∷ node 4 ∷ []; vms = vm 3 0 1 ∷ vm 5 2 2 ∷ []; constraints = [] }
 
 unfoldable pub oneMove : Step
-oneMove = record { vm = 0; to = 1 } ∷ []
+oneMove = record { vm = 0; source = Unnamed; to = 1 } ∷ []
 
 -- ---- the wrong readings
 

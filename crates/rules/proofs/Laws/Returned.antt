@@ -93,6 +93,7 @@ number-most (Fault.Plan PlanFault.Version) = omega arith
 number-most (Fault.Plan PlanFault.Length) = omega arith
 number-most (Fault.Plan PlanFault.Shape) = omega arith
 number-most (Fault.Step StepFault.Misnamed s) = omega arith
+number-most (Fault.Step StepFault.Elsewhere s) = omega arith
 number-most (Fault.Step StepFault.Forbidden s) = omega arith
 number-most (Fault.Step StepFault.Misfit s) = omega arith
 number-most (Fault.Step StepFault.Mate s) = omega arith
@@ -137,7 +138,8 @@ faultFrom n s =
     (pick (eqb n 16) (Fault.Step StepFault.Forbidden s)
     (pick (eqb n 17) (Fault.Step StepFault.Misfit s)
     (pick (eqb n 18) (Fault.Step StepFault.Mate s)
-    Fault.OffTarget))))))))))))))))
+    (pick (eqb n 27) (Fault.Step StepFault.Elsewhere s)
+    Fault.OffTarget)))))))))))))))))
 
 fault-from : (f : Fault) → faultFrom (faultNumber f) (faultStep f) ≡ f
 unfolding faultFrom
@@ -155,6 +157,7 @@ fault-from (Fault.Plan PlanFault.Version) = refl
 fault-from (Fault.Plan PlanFault.Length) = refl
 fault-from (Fault.Plan PlanFault.Shape) = refl
 fault-from (Fault.Step StepFault.Misnamed s) = refl
+fault-from (Fault.Step StepFault.Elsewhere s) = refl
 fault-from (Fault.Step StepFault.Forbidden s) = refl
 fault-from (Fault.Step StepFault.Misfit s) = refl
 fault-from (Fault.Step StepFault.Mate s) = refl

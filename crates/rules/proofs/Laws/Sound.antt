@@ -1,4 +1,4 @@
--- Laws on sound steps: what the first fault says of the four tests; a part of a sound step is sound.
+-- Laws on sound steps: what the first fault says of the five tests; a part of a sound step is sound.
 use Prim.Native.Nat.{ℕ, zero, suc, _≤_, _<_}
 use mathlib.Core.Bool.{Bool, true, false, not, _&&_}
 use mathlib.Core.List.{List, [], _∷_, Sublistᴰ, Sublistᴰ·slnil, Sublistᴰ·cons, Sublistᴰ·cons-cons}
@@ -14,66 +14,88 @@ use Rattle.records.specs.Plan.{Move, Step}
 use Rattle.records.proofs.Laws.Bools.{and-left, and-right, and-both}
 use Rattle.rules.specs.Moments.{Placement, placeOf, idle, waiting, cell, countsOn, within, tallyAt, phaseOf, cellsFrom, firstMoment, begun, allRunning}
 use Rattle.rules.specs.Orders.{meetsMate}
-use Rattle.rules.specs.Rules.{allowed, named, permitted, fitting, unmet, stepCheck, soundStep}
-use Rattle.rules.specs.declared.faults.StepFault.the-variants.{Misnamed, Forbidden, Misfit, Mate}
+use Rattle.rules.specs.Rules.{allowed, named, sourced, permitted, fitting, unmet, stepCheck, soundStep}
+use Rattle.rules.specs.declared.faults.StepFault.the-variants.{Misnamed, Elsewhere, Forbidden, Misfit, Mate}
 use Rattle.rules.specs.declared.faults.StepCheck.{StepCheck}
-use Rattle.rules.specs.declared.faults.StepCheck.the-variants.{Sound, Faulty}
+use Rattle.rules.specs.declared.faults.StepCheck.the-variants.{Clear, Faulty}
 use Rattle.rules.proofs.Laws.Orders.{never, Under, empty, both, meets-under, within-under, named-least, named-vm, named-node, named-off, named-rest, named-cons}
 
 -- the first fault from the tests
-abbrev found : Bool → Bool → Bool → Bool → StepCheck
-found n p f u = pick (not n) (Faulty Misnamed) (pick (not p) (Faulty Forbidden) (pick (not f) (Faulty Misfit) (pick (not u) (Faulty Mate) Sound)))
+abbrev found : Bool → Bool → Bool → Bool → Bool → StepCheck
+found n s p f u =
+    pick (not n) (Faulty Misnamed)
+    (pick (not s) (Faulty Elsewhere) (pick (not p) (Faulty Forbidden) (pick (not f) (Faulty Misfit) (pick (not u) (Faulty Mate) Clear))))
 
 -- the tests that a fault tells
-pub record TestsForbidden (n p : Bool) : Type 0 where
+pub record TestsElsewhere (n s : Bool) : Type 0 where
   pub well-named : n ≡ true
+  pub elsewhere : s ≡ false
+
+pub record TestsForbidden (n s p : Bool) : Type 0 where
+  pub well-named : n ≡ true
+  pub well-sourced : s ≡ true
   pub forbidden : p ≡ false
 
-pub record TestsMisfit (n p f : Bool) : Type 0 where
+pub record TestsMisfit (n s p f : Bool) : Type 0 where
   pub well-named : n ≡ true
+  pub well-sourced : s ≡ true
   pub permitted : p ≡ true
   pub misfit : f ≡ false
 
-pub record TestsMate (n p f u : Bool) : Type 0 where
+pub record TestsMate (n s p f u : Bool) : Type 0 where
   pub well-named : n ≡ true
+  pub well-sourced : s ≡ true
   pub permitted : p ≡ true
   pub fit : f ≡ true
   pub mate : u ≡ false
 
-none-found : (n p f u : Bool) → found n p f u ≡ Sound → (n && (p && (f && u))) ≡ true
-none-found false p f u e = never (cc)
-none-found true false f u e = never (cc)
-none-found true true false u e = never (cc)
-none-found true true true false e = never (cc)
-none-found true true true true e = refl
+none-found : (n s p f u : Bool) → found n s p f u ≡ Clear → ((n && (p && (f && u))) ≡ true) × (s ≡ true)
+none-found false s p f u e = never (cc)
+none-found true false p f u e = never (cc)
+none-found true true false f u e = never (cc)
+none-found true true true false u e = never (cc)
+none-found true true true true false e = never (cc)
+none-found true true true true true e = (refl, refl)
 
-misnamed-found : (n p f u : Bool) → found n p f u ≡ Faulty Misnamed → n ≡ false
-misnamed-found false p f u e = refl
-misnamed-found true false f u e = never (cc)
-misnamed-found true true false u e = never (cc)
-misnamed-found true true true false e = never (cc)
-misnamed-found true true true true e = never (cc)
+misnamed-found : (n s p f u : Bool) → found n s p f u ≡ Faulty Misnamed → n ≡ false
+misnamed-found false s p f u e = refl
+misnamed-found true false p f u e = never (cc)
+misnamed-found true true false f u e = never (cc)
+misnamed-found true true true false u e = never (cc)
+misnamed-found true true true true false e = never (cc)
+misnamed-found true true true true true e = never (cc)
 
-forbidden-found : (n p f u : Bool) → found n p f u ≡ Faulty Forbidden → TestsForbidden n p
-forbidden-found false p f u e = never (cc)
-forbidden-found true false f u e = record { well-named = refl; forbidden = refl }
-forbidden-found true true false u e = never (cc)
-forbidden-found true true true false e = never (cc)
-forbidden-found true true true true e = never (cc)
+elsewhere-found : (n s p f u : Bool) → found n s p f u ≡ Faulty Elsewhere → TestsElsewhere n s
+elsewhere-found false s p f u e = never (cc)
+elsewhere-found true false p f u e = record { well-named = refl; elsewhere = refl }
+elsewhere-found true true false f u e = never (cc)
+elsewhere-found true true true false u e = never (cc)
+elsewhere-found true true true true false e = never (cc)
+elsewhere-found true true true true true e = never (cc)
 
-misfit-found : (n p f u : Bool) → found n p f u ≡ Faulty Misfit → TestsMisfit n p f
-misfit-found false p f u e = never (cc)
-misfit-found true false f u e = never (cc)
-misfit-found true true false u e = record { well-named = refl; permitted = refl; misfit = refl }
-misfit-found true true true false e = never (cc)
-misfit-found true true true true e = never (cc)
+forbidden-found : (n s p f u : Bool) → found n s p f u ≡ Faulty Forbidden → TestsForbidden n s p
+forbidden-found false s p f u e = never (cc)
+forbidden-found true false p f u e = never (cc)
+forbidden-found true true false f u e = record { well-named = refl; well-sourced = refl; forbidden = refl }
+forbidden-found true true true false u e = never (cc)
+forbidden-found true true true true false e = never (cc)
+forbidden-found true true true true true e = never (cc)
 
-mate-found : (n p f u : Bool) → found n p f u ≡ Faulty Mate → TestsMate n p f u
-mate-found false p f u e = never (cc)
-mate-found true false f u e = never (cc)
-mate-found true true false u e = never (cc)
-mate-found true true true false e = record { well-named = refl; permitted = refl; fit = refl; mate = refl }
-mate-found true true true true e = never (cc)
+misfit-found : (n s p f u : Bool) → found n s p f u ≡ Faulty Misfit → TestsMisfit n s p f
+misfit-found false s p f u e = never (cc)
+misfit-found true false p f u e = never (cc)
+misfit-found true true false f u e = never (cc)
+misfit-found true true true false u e = record { well-named = refl; well-sourced = refl; permitted = refl; misfit = refl }
+misfit-found true true true true false e = never (cc)
+misfit-found true true true true true e = never (cc)
+
+mate-found : (n s p f u : Bool) → found n s p f u ≡ Faulty Mate → TestsMate n s p f u
+mate-found false s p f u e = never (cc)
+mate-found true false p f u e = never (cc)
+mate-found true true false f u e = never (cc)
+mate-found true true true false u e = never (cc)
+mate-found true true true true false e = record { well-named = refl; well-sourced = refl; permitted = refl; fit = refl; mate = refl }
+mate-found true true true true true e = never (cc)
 
 module _ (room : Room) (places : Placement) (step : Step) where
   -- a sound step, by its tests
@@ -101,39 +123,48 @@ module _ (room : Room) (places : Placement) (step : Step) where
   sound-tests n p f u = and-both n (and-both p (and-both f u))
 
   -- the first fault, by the tests
-  pub sound-none : (soundStep room places step ≡ true) ↔ (stepCheck room places step ≡ Sound)
+  pub none-check : (stepCheck room places step ≡ Clear) ↔ ((soundStep room places step ≡ true) × (sourced places step ≡ true))
   unfolding stepCheck soundStep
-  sound-none = (
-    λ e. simp (sound-named e, sound-permitted e, sound-fitting e, sound-unmet e),
-    none-found (named room places 0 step) (permitted room step) (fitting room places step) (unmet room places step),
+  none-check = (
+    none-found (named room places 0 step) (sourced places step) (permitted room step) (fitting room places step) (unmet room places step),
+    λ t. simp (sound-named (t .0), t .1, sound-permitted (t .0), sound-fitting (t .0), sound-unmet (t .0)),
   )
 
   pub misnamed-check : (stepCheck room places step ≡ Faulty Misnamed) ↔ (named room places 0 step ≡ false)
   unfolding stepCheck
   misnamed-check = (
-    misnamed-found (named room places 0 step) (permitted room step) (fitting room places step) (unmet room places step),
+    misnamed-found (named room places 0 step) (sourced places step) (permitted room step) (fitting room places step) (unmet room places step),
     λ t. simp t,
   )
 
-  pub forbidden-check : (stepCheck room places step ≡ Faulty Forbidden) ↔ TestsForbidden (named room places 0 step) (permitted room step)
+  pub elsewhere-check : (stepCheck room places step ≡ Faulty Elsewhere) ↔ TestsElsewhere (named room places 0 step) (sourced places step)
+  unfolding stepCheck
+  elsewhere-check = (
+    elsewhere-found (named room places 0 step) (sourced places step) (permitted room step) (fitting room places step) (unmet room places step),
+    λ t. simp (t .well-named, t .elsewhere),
+  )
+
+  pub forbidden-check : (stepCheck room places step ≡ Faulty Forbidden) ↔ TestsForbidden (named room places 0 step) (sourced places step) (permitted room step)
   unfolding stepCheck
   forbidden-check = (
-    forbidden-found (named room places 0 step) (permitted room step) (fitting room places step) (unmet room places step),
-    λ t. simp (t .well-named, t .forbidden),
+    forbidden-found (named room places 0 step) (sourced places step) (permitted room step) (fitting room places step) (unmet room places step),
+    λ t. simp (t .well-named, t .well-sourced, t .forbidden),
   )
 
-  pub misfit-check : (stepCheck room places step ≡ Faulty Misfit) ↔ TestsMisfit (named room places 0 step) (permitted room step) (fitting room places step)
+  pub misfit-check : (stepCheck room places step ≡ Faulty Misfit) ↔
+      TestsMisfit (named room places 0 step) (sourced places step) (permitted room step) (fitting room places step)
   unfolding stepCheck
   misfit-check = (
-    misfit-found (named room places 0 step) (permitted room step) (fitting room places step) (unmet room places step),
-    λ t. simp (t .well-named, t .permitted, t .misfit),
+    misfit-found (named room places 0 step) (sourced places step) (permitted room step) (fitting room places step) (unmet room places step),
+    λ t. simp (t .well-named, t .well-sourced, t .permitted, t .misfit),
   )
 
-  pub mate-check : (stepCheck room places step ≡ Faulty Mate) ↔ TestsMate (named room places 0 step) (permitted room step) (fitting room places step) (unmet room places step)
+  pub mate-check : (stepCheck room places step ≡ Faulty Mate) ↔
+      TestsMate (named room places 0 step) (sourced places step) (permitted room step) (fitting room places step) (unmet room places step)
   unfolding stepCheck
   mate-check = (
-    mate-found (named room places 0 step) (permitted room step) (fitting room places step) (unmet room places step),
-    λ t. simp (t .well-named, t .permitted, t .fit, t .mate),
+    mate-found (named room places 0 step) (sourced places step) (permitted room step) (fitting room places step) (unmet room places step),
+    λ t. simp (t .well-named, t .well-sourced, t .permitted, t .fit, t .mate),
   )
 
 -- ---- a part of a sound step, its moves in order, is sound

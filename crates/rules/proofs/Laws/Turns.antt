@@ -32,7 +32,7 @@ use Rattle.rules.specs.declared.faults.StepCheck.{StepCheck}
 use Rattle.rules.specs.declared.faults.Fault.{Fault}
 use Rattle.rules.specs.declared.faults.Verdict.{Verdict}
 use Rattle.rules.proofs.Laws.Fit.{named-vm, named-to, named-rest}
-use Rattle.rules.proofs.Laws.Sound.{sound-none, sound-named}
+use Rattle.rules.proofs.Laws.Sound.{none-check, sound-named}
 use Rattle.rules.proofs.Laws.Places.{current-holds}
 use Rattle.rules.proofs.Laws.Contract.{contract}
 use Rattle.rules.proofs.Laws.Verdicts.{step-most}
@@ -66,8 +66,8 @@ after-placed s places start least (move ∷ moves) n p =
     after-placed s (set places (move .vm) (move .to)) start (suc (move .vm)) moves (named-rest s start least move moves n)
     (set-below s places (move .vm) (move .to) p (named-to s start least move moves n))
 
-sound-step-named : (room : Room) (places : Placement) (step : Step) → stepCheck room places step ≡ StepCheck.Sound → named room places 0 step ≡ true
-sound-step-named room places step e = sound-named room places step (sound-none room places step .1 e)
+sound-step-named : (room : Room) (places : Placement) (step : Step) → stepCheck room places step ≡ StepCheck.Clear → named room places 0 step ≡ true
+sound-step-named room places step e = sound-named room places step (none-check room places step .0 e .0)
 
 -- ---- the turns
 
@@ -94,7 +94,7 @@ module _ (s plan places : List ℕ) (at left number : ℕ) (w : Walking s plan p
   unfolding onStep
   turn-faulty f q = simp q at turn
 
-  module _ (q : found ≡ StepCheck.Sound) (next : List ℕ) (end : ℕ) (a : next ≡ after places (stepAt plan at)) (b : end ≡ stepEnd plan at) where
+  module _ (q : found ≡ StepCheck.Clear) (next : List ℕ) (end : ℕ) (a : next ≡ after places (stepAt plan at)) (b : end ≡ stepEnd plan at) where
     name : named (roomOf s) (held s places) 0 (stepAt plan at) ≡ true
     name = sound-step-named (roomOf s) (held s places) (stepAt plan at) (sym e ∙ q)
 

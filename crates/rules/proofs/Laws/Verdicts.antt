@@ -2,7 +2,7 @@
 use Prim.Native.Nat.{ℕ, zero, suc, _+_, _≤_, _<_}
 use mathlib.Core.Bool.{Bool, true, false, _&&_, false≢true}
 use mathlib.Core.List.{List, [], _∷_}
-use mathlib.Core.Logic.{_↔_, by-cases}
+use mathlib.Core.Logic.{_↔_, _⊎_, by-cases}
 use mathlib.Core.Path.{_≡_, refl, sym, ap, _∙_}
 use native.Mathlib.Decide.{ℕ-discrete}
 use native.Mathlib.Omega.{arith}
@@ -18,53 +18,62 @@ use Rattle.records.proofs.Laws.Bools.{and-left, and-right, and-both}
 use Rattle.records.proofs.Laws.Steps.{plan-empty, empty-steps, steps-length, steps-most}
 use Rattle.records.proofs.Laws.RoundTrip.{header-whole, header-steps}
 use Rattle.rules.specs.Moments.{Placement, placeOf, currentOf, targetOf, after}
-use Rattle.rules.specs.Rules.{from, targetCheck, fitting, stepCheck, soundStep}
+use Rattle.rules.specs.Rules.{from, targetCheck, sourced, fitting, stepCheck, soundStep}
 use Rattle.rules.specs.Cost.{costFrom, costOf}
 use Rattle.rules.specs.Verdict.{home, onCluster, onTarget, onPlan, onStep, stepsVerdict, planVerdict, verdictOf, faultStep}
-use Rattle.rules.specs.Promises.{afterAll, namedAll, soundAll, Shaped, EveryRun, FaultNames, FaultDestination, FaultFit, FaultMate, FirstAtFault, EndsAway}
+use Rattle.rules.specs.Promises.{afterAll, namedAll, sourcedAll, soundAll, Shaped, EveryRun, FaultNames, FaultSource, FaultDestination, FaultFit, FaultMate, FirstAtFault, EndsAway}
 use Rattle.rules.specs.declared.faults.TargetCheck.{TargetCheck}
 use Rattle.rules.specs.declared.faults.StepFault.{StepFault}
 use Rattle.rules.specs.declared.faults.StepCheck.{StepCheck}
 use Rattle.rules.specs.declared.faults.Fault.{Fault}
 use Rattle.rules.specs.declared.faults.Verdict.{Verdict}
 use Rattle.rules.proofs.Laws.Orders.{never}
-use Rattle.rules.proofs.Laws.Sound.{sound-none, misnamed-check, forbidden-check, misfit-check, mate-check}
+use Rattle.rules.proofs.Laws.Sound.{none-check, misnamed-check, elsewhere-check, forbidden-check, misfit-check, mate-check}
+use Rattle.rules.proofs.Laws.Sources.{wrong-found, wrong-refused, sourced-at}
 use Rattle.rules.proofs.Laws.Runs.{sound-all-named, misfit-exact, mate-exact, run-ends, some-run, run-obeys, runs-sound}
 
 -- ---- steps in turn
 
--- sound steps that reach the target get what is good
+-- a first step that is sound and names no wrong source passes
+clear-check : (room : Room) (places : Placement) (step : Step) (steps : List Step) → soundAll room places (step ∷ steps) ≡ true →
+    sourcedAll places (step ∷ steps) ≡ true → stepCheck room places step ≡ StepCheck.Clear
+unfolding soundAll sourcedAll
+clear-check room places step steps e x =
+    none-check room places step .1 (and-left (soundStep room places step) (soundAll room (after places step) steps) e, and-left (sourced places step) _ x)
+
+-- sound steps that name no wrong source and reach the target get what is good
 pub steps-good : (room : Room) (good : Verdict) (places : Placement) (number : ℕ) (steps : List Step) → soundAll room places steps ≡ true →
-    home room (afterAll places steps) ≡ true → stepsVerdict room good places number steps ≡ good
-unfolding stepsVerdict soundAll afterAll onStep
-steps-good room good places number [] e h = rw h
-steps-good room good places number (step ∷ steps) e h =
-    rw (sound-none room places step .0 (and-left (soundStep room places step) (soundAll room (after places step) steps) e))
-    (steps-good room good (after places step) (suc number) steps (and-right (soundStep room places step) (soundAll room (after places step) steps) e) h)
+    sourcedAll places steps ≡ true → home room (afterAll places steps) ≡ true → stepsVerdict room good places number steps ≡ good
+unfolding stepsVerdict soundAll sourcedAll afterAll onStep
+steps-good room good places number [] e x h = rw h
+steps-good room good places number (step ∷ steps) e x h =
+    rw (clear-check room places step steps e x)
+    (steps-good room good (after places step) (suc number) steps (and-right (soundStep room places step) _ e) (and-right (sourced places step) _ x) h)
 
 -- and those that do not are refused for that
 pub steps-away : (room : Room) (good : Verdict) (places : Placement) (number : ℕ) (steps : List Step) → soundAll room places steps ≡ true →
-    home room (afterAll places steps) ≡ false → stepsVerdict room good places number steps ≡ Verdict.Refused Fault.OffTarget
-unfolding stepsVerdict soundAll afterAll onStep
-steps-away room good places number [] e h = rw h
-steps-away room good places number (step ∷ steps) e h =
-    rw (sound-none room places step .0 (and-left (soundStep room places step) (soundAll room (after places step) steps) e))
-    (steps-away room good (after places step) (suc number) steps (and-right (soundStep room places step) (soundAll room (after places step) steps) e) h)
+    sourcedAll places steps ≡ true → home room (afterAll places steps) ≡ false → stepsVerdict room good places number steps ≡ Verdict.Refused Fault.OffTarget
+unfolding stepsVerdict soundAll sourcedAll afterAll onStep
+steps-away room good places number [] e x h = rw h
+steps-away room good places number (step ∷ steps) e x h =
+    rw (clear-check room places step steps e x)
+    (steps-away room good (after places step) (suc number) steps (and-right (soundStep room places step) _ e) (and-right (sourced places step) _ x) h)
 
 -- only those
 pub record StepsAccepted (room : Room) (places : Placement) (steps : List Step) (cost given : ℕ) : Type 0 where
   pub sound : soundAll room places steps ≡ true
+  pub well-sourced : sourcedAll places steps ≡ true
   pub arrived : home room (afterAll places steps) ≡ true
   pub cost-is : given ≡ cost
 
 pub steps-accepted : (room : Room) (cost given : ℕ) (places : Placement) (number : ℕ) (steps : List Step) →
     stepsVerdict room (Verdict.Accepted cost) places number steps ≡ Verdict.Accepted given → StepsAccepted room places steps cost given
-unfolding stepsVerdict soundAll afterAll onStep
+unfolding stepsVerdict soundAll sourcedAll afterAll onStep
 steps-accepted room cost given places number [] e = go (home room places) refl e
   where
     go : (b : Bool) → home room places ≡ b → pick b (Verdict.Accepted cost) (Verdict.Refused Fault.OffTarget) ≡ Verdict.Accepted given →
         StepsAccepted room places [] cost given
-    go true h e = record { sound = refl; arrived = h; cost-is = cc }
+    go true h e = record { sound = refl; well-sourced = refl; arrived = h; cost-is = cc }
     go false h e = never (cc)
 steps-accepted room cost given places number (step ∷ steps) e =
     go (stepCheck room places step) refl e (steps-accepted room cost given (after places step) (suc number) steps)
@@ -74,23 +83,25 @@ steps-accepted room cost given places number (step ∷ steps) e =
 
     go : (c : StepCheck) → stepCheck room places step ≡ c → onStep c number rest ≡ Verdict.Accepted given →
         (rest ≡ Verdict.Accepted given → StepsAccepted room (after places step) steps cost given) → StepsAccepted room places (step ∷ steps) cost given
-    go StepCheck.Sound h e more =
+    go StepCheck.Clear h e more =
         let a = more e in
-        record { sound = and-both (sound-none room places step .1 h) (a .sound); arrived = a .arrived; cost-is = a .cost-is }
+        let c = none-check room places step .0 h in
+        record { sound = and-both (c .0) (a .sound); well-sourced = and-both (c .1) (a .well-sourced); arrived = a .arrived; cost-is = a .cost-is }
     go (StepCheck.Faulty fault) h e more = never (cc)
 
 pub record StepsAway (room : Room) (places : Placement) (steps : List Step) : Type 0 where
   pub sound : soundAll room places steps ≡ true
+  pub well-sourced : sourcedAll places steps ≡ true
   pub missed : home room (afterAll places steps) ≡ false
 
 pub steps-off : (room : Room) (cost : ℕ) (places : Placement) (number : ℕ) (steps : List Step) →
     stepsVerdict room (Verdict.Accepted cost) places number steps ≡ Verdict.Refused Fault.OffTarget → StepsAway room places steps
-unfolding stepsVerdict soundAll afterAll onStep
+unfolding stepsVerdict soundAll sourcedAll afterAll onStep
 steps-off room cost places number [] e = go (home room places) refl e
   where
     go : (b : Bool) → home room places ≡ b → pick b (Verdict.Accepted cost) (Verdict.Refused Fault.OffTarget) ≡ Verdict.Refused Fault.OffTarget → StepsAway room places []
     go true h e = never (cc)
-    go false h e = record { sound = refl; missed = h }
+    go false h e = record { sound = refl; well-sourced = refl; missed = h }
 steps-off room cost places number (step ∷ steps) e =
     go (stepCheck room places step) refl e (steps-off room cost (after places step) (suc number) steps)
   where
@@ -99,19 +110,23 @@ steps-off room cost places number (step ∷ steps) e =
 
     go : (c : StepCheck) → stepCheck room places step ≡ c → onStep c number rest ≡ Verdict.Refused Fault.OffTarget →
         (rest ≡ Verdict.Refused Fault.OffTarget → StepsAway room (after places step) steps) → StepsAway room places (step ∷ steps)
-    go StepCheck.Sound h e more = let a = more e in record { sound = and-both (sound-none room places step .1 h) (a .sound); missed = a .missed }
+    go StepCheck.Clear h e more =
+        let a = more e in
+        let c = none-check room places step .0 h in
+        record { sound = and-both (c .0) (a .sound); well-sourced = and-both (c .1) (a .well-sourced); missed = a .missed }
     go (StepCheck.Faulty fault) h e more = never (cc)
 
--- a refusal for a step: the steps before it are sound, and it has that fault first
+-- a refusal for a step: the steps before it are sound and name no wrong source, and it has that fault first
 pub record StepRefused (room : Room) (places : Placement) (steps : List Step) (fault : StepFault) (n : ℕ) : Type 0 where
   pub there : n < length steps
   pub earlier : soundAll room places (take n steps) ≡ true
+  pub earlier-sourced : sourcedAll places (take n steps) ≡ true
   pub check : stepCheck room (afterAll places (take n steps)) (getD steps n []) ≡ StepCheck.Faulty fault
 
 pub steps-refused : (room : Room) (cost : ℕ) (fault : StepFault) (places : Placement) (number m : ℕ) (steps : List Step) →
     stepsVerdict room (Verdict.Accepted cost) places number steps ≡ Verdict.Refused (Fault.Step fault m) →
     (n : ℕ) × (number + n ≡ m) × StepRefused room places steps fault n
-unfolding stepsVerdict soundAll afterAll onStep
+unfolding stepsVerdict soundAll sourcedAll afterAll onStep
 steps-refused room cost fault places number m [] e = go (home room places) e
   where
     go : (b : Bool) → pick b (Verdict.Accepted cost) (Verdict.Refused Fault.OffTarget) ≡ Verdict.Refused (Fault.Step fault m) →
@@ -127,49 +142,69 @@ steps-refused room cost fault places number m (step ∷ steps) e =
     go : (c : StepCheck) → stepCheck room places step ≡ c → onStep c number rest ≡ Verdict.Refused (Fault.Step fault m) →
         (rest ≡ Verdict.Refused (Fault.Step fault m) → (n : ℕ) × (suc number + n ≡ m) × StepRefused room (after places step) steps fault n) →
         (n : ℕ) × (number + n ≡ m) × StepRefused room places (step ∷ steps) fault n
-    go StepCheck.Sound h e more =
+    go StepCheck.Clear h e more =
         let a = more e in
         let b = a .2 .there in
         let k = a .1 in
-        (suc (a .0), omega arith, record { there = omega arith; earlier = and-both (sound-none room places step .1 h) (a .2 .earlier); check = a .2 .check })
+        let c = none-check room places step .0 h in (
+          suc (a .0),
+          omega arith,
+          record { there = omega arith; earlier = and-both (c .0) (a .2 .earlier); earlier-sourced = and-both (c .1) (a .2 .earlier-sourced); check = a .2 .check },
+        )
     go (StepCheck.Faulty found) h e more =
         let same : number ≡ m = cc in
         let that : found ≡ fault = cc in
-        (0, omega arith, record { there = omega arith; earlier = refl; check = h ∙ ap StepCheck.Faulty that })
+        (0, omega arith, record { there = omega arith; earlier = refl; earlier-sourced = refl; check = h ∙ ap StepCheck.Faulty that })
 
 pub refused-steps : (room : Room) (good : Verdict) (fault : StepFault) (places : Placement) (number n : ℕ) (steps : List Step) →
     StepRefused room places steps fault n → stepsVerdict room good places number steps ≡ Verdict.Refused (Fault.Step fault (number + n))
-unfolding stepsVerdict soundAll afterAll onStep
+unfolding stepsVerdict soundAll sourcedAll afterAll onStep
 refused-steps room good fault places number n [] r = let h = r .there in absurd (omega arith)
 refused-steps room good fault places number zero (step ∷ steps) r = let k : number + zero ≡ number = omega arith in rw (k, r .check)
 refused-steps room good fault places number (suc n) (step ∷ steps) r =
     let k : number + suc n ≡ suc number + n = omega arith in
     let h = r .there in
-    rw (sound-none room places step .0 (and-left (soundStep room places step) (soundAll room (after places step) (take n steps)) (r .earlier)), k)
+    rw (clear-check room places step (take n steps) (r .earlier) (r .earlier-sourced), k)
     (refused-steps room good fault (after places step) (suc number) n steps (record {
       there = omega arith;
       earlier = and-right (soundStep room places step) (soundAll room (after places step) (take n steps)) (r .earlier);
+      earlier-sourced = and-right (sourced places step) _ (r .earlier-sourced);
       check = r .check;
     }))
 
--- ---- 15 to 18 of a step, by what they mean
+-- ---- 15 to 18 and 27 of a step, by what they mean
 
 module _ (room : Room) (places : Placement) (step : Step) where
   pub names-fault : (stepCheck room places step ≡ StepCheck.Faulty StepFault.Misnamed) ↔ FaultNames room places step
   names-fault = (λ e. record { misnamed = misnamed-check room places step .0 e }, λ f. misnamed-check room places step .1 (f .misnamed))
 
+  pub source-fault : (stepCheck room places step ≡ StepCheck.Faulty StepFault.Elsewhere) ↔ FaultSource room places step
+  source-fault = (
+    λ e. let t = elsewhere-check room places step .0 e in record { well-named = t .well-named; elsewhere = wrong-found places step (t .elsewhere) },
+    λ f. elsewhere-check room places step .1 (record { well-named = f .well-named; elsewhere = wrong-refused places step (f .elsewhere) }),
+  )
+
   pub destination-fault : (stepCheck room places step ≡ StepCheck.Faulty StepFault.Forbidden) ↔ FaultDestination room places step
   destination-fault = (
-    λ e. let t = forbidden-check room places step .0 e in record { well-named = t .well-named; forbidden = t .forbidden },
-    λ f. forbidden-check room places step .1 (record { well-named = f .well-named; forbidden = f .forbidden }),
+    λ e. let t = forbidden-check room places step .0 e in record { well-named = t .well-named; well-sourced = t .well-sourced; forbidden = t .forbidden },
+    λ f. forbidden-check room places step .1 (record { well-named = f .well-named; well-sourced = f .well-sourced; forbidden = f .forbidden }),
   )
 
   pub fit-fault : (stepCheck room places step ≡ StepCheck.Faulty StepFault.Misfit) ↔ FaultFit room places step
   fit-fault = (
     λ e. let t = misfit-check room places step .0 e in
-        record { well-named = t .well-named; permitted = t .permitted; misfit = misfit-exact room places step (t .well-named) .0 (t .misfit) },
-    λ f. misfit-check room places step .1
-        (record { well-named = f .well-named; permitted = f .permitted; misfit = misfit-exact room places step (f .well-named) .1 (f .misfit) }),
+        record {
+          well-named = t .well-named;
+          well-sourced = t .well-sourced;
+          permitted = t .permitted;
+          misfit = misfit-exact room places step (t .well-named) .0 (t .misfit);
+        },
+    λ f. misfit-check room places step .1 (record {
+      well-named = f .well-named;
+      well-sourced = f .well-sourced;
+      permitted = f .permitted;
+      misfit = misfit-exact room places step (f .well-named) .1 (f .misfit);
+    }),
   )
 
   pub mate-fault : (stepCheck room places step ≡ StepCheck.Faulty StepFault.Mate) ↔ FaultMate room places step
@@ -177,12 +212,14 @@ module _ (room : Room) (places : Placement) (step : Step) where
     λ e. let t = mate-check room places step .0 e in
         record {
           well-named = t .well-named;
+          well-sourced = t .well-sourced;
           permitted = t .permitted;
           fit = λ x. false≢true (sym (misfit-exact room places step (t .well-named) .1 x) ∙ t .fit);
           mate = mate-exact room places step (t .well-named) .0 (t .mate);
         },
     λ f. mate-check room places step .1 (record {
       well-named = f .well-named;
+      well-sourced = f .well-sourced;
       permitted = f .permitted;
       fit = fitted f (fitting room places step) refl;
       mate = mate-exact room places step (f .well-named) .1 (f .mate);
@@ -203,6 +240,7 @@ first-fault room places steps n fault P l iff = (found, refused)
     found r = record {
       there = r .there;
       earlier = r .earlier;
+      earlier-sourced = r .earlier-sourced;
       fault = λ start run.
           rw (run-ends (sound-all-named room places (take n steps) (r .earlier)) l run)
           (iff (afterAll places (take n steps)) (getD steps n []) .0 (r .check));
@@ -215,6 +253,7 @@ first-fault room places steps n fault P l iff = (found, refused)
         record {
           there = f .there;
           earlier = f .earlier;
+          earlier-sourced = f .earlier-sourced;
           check = iff (afterAll places (take n steps)) (getD steps n []) .1 (rw e at (f .fault (r .0) (r .1)));
         }
 
@@ -263,6 +302,7 @@ ends-away room places steps l = (runs, found)
     runs : StepsAway room places steps → EndsAway room places steps
     runs a = record {
       sound = a .sound;
+      well-sourced = a .well-sourced;
       obeys = λ last run. run-obeys (a .sound) l run;
       away = λ last run. off-some room last (ap (home room) (run-ends (sound-all-named room places steps (a .sound)) l run) ∙ a .missed);
     }
@@ -273,6 +313,7 @@ ends-away room places steps l = (runs, found)
         let w = a .away (r .0) (r .1) in
         record {
           sound = a .sound;
+          well-sourced = a .well-sourced;
           missed = ap (home room) (sym (run-ends (sound-all-named room places steps (a .sound)) l (r .1))) ∙ off-home room (r .0) (w .0) (w .1) (w .2);
         }
 
@@ -329,16 +370,19 @@ module _ (cluster plan : List ℕ) where
       (late-shaped cluster plan (Verdict.Accepted cost) refl e .1)
 
   pub only-holds : (cost : ℕ) → verdictOf cluster plan ≡ Verdict.Accepted cost →
-      Shaped cluster plan × (namedAll (roomOf cluster) (currentOf (roomOf cluster)) (stepsOf plan) ≡ true)
+      Shaped cluster plan × (namedAll (roomOf cluster) (currentOf (roomOf cluster)) (stepsOf plan) ≡ true) ×
+      (sourcedAll (currentOf (roomOf cluster)) (stepsOf plan) ≡ true)
   only-holds cost e = (
     late-shaped cluster plan (Verdict.Accepted cost) refl e .0,
     sound-all-named (roomOf cluster) (currentOf (roomOf cluster)) (stepsOf plan) (accepted-steps cost e .sound),
+    accepted-steps cost e .well-sourced,
   )
 
   pub exact-holds : Shaped cluster plan → namedAll (roomOf cluster) (currentOf (roomOf cluster)) (stepsOf plan) ≡ true →
+      sourcedAll (currentOf (roomOf cluster)) (stepsOf plan) ≡ true →
       ((cost : ℕ) × (verdictOf cluster plan ≡ Verdict.Accepted cost)) ↔ EveryRun (roomOf cluster) (currentOf (roomOf cluster)) (stepsOf plan)
   unfolding planVerdict
-  exact-holds h n = (every, accepted)
+  exact-holds h n x = (every, accepted)
     where
       room : Room
       room = roomOf cluster
@@ -362,7 +406,7 @@ module _ (cluster plan : List ℕ) where
           let r = some-run room places steps in (
             costOf room steps,
             shaped-verdict cluster plan h ∙
-                steps-good room (Verdict.Accepted (costOf room steps)) places 1 steps (runs-sound room places steps n (current-length room) (a .obeys))
+                steps-good room (Verdict.Accepted (costOf room steps)) places 1 steps (runs-sound room places steps n (current-length room) (a .obeys)) x
                 (sym (ap (home room) (run-ends n (current-length room) (r .1))) ∙ a .ends (r .0) (r .1)),
           )
 
@@ -389,6 +433,16 @@ module _ (cluster plan : List ℕ) where
           shaped-verdict cluster plan (r .0) ∙
           rw k at (refused-steps room (Verdict.Accepted (costOf room (stepsOf plan))) fault (currentOf room) 1 n (stepsOf plan) (r .1))
 
+  -- none for a source, where no step names a wrong one
+  pub none-elsewhere : sourcedAll (currentOf (roomOf cluster)) (stepsOf plan) ≡ true → (m : ℕ) → verdictOf cluster plan ≡ Verdict.Refused (Fault.Step StepFault.Elsewhere m) → ⊥
+  unfolding planVerdict
+  none-elsewhere x m e =
+      let h = late-shaped cluster plan (Verdict.Refused (Fault.Step StepFault.Elsewhere m)) refl e in
+      let room = roomOf cluster in
+      let r = steps-refused room (costOf room (stepsOf plan)) StepFault.Elsewhere (currentOf room) 1 m (stepsOf plan) (h .1) in
+      let t = elsewhere-check room (afterAll (currentOf room) (take (r .0) (stepsOf plan))) (getD (stepsOf plan) (r .0) []) .0 (r .2 .check) in
+      false≢true (sym (t .elsewhere) ∙ sourced-at (currentOf room) (stepsOf plan) (r .0) x (r .2 .there))
+
   -- a refusal at the end
   pub end-refusal : (verdictOf cluster plan ≡ Verdict.Refused Fault.OffTarget) ↔ (Shaped cluster plan × StepsAway (roomOf cluster) (currentOf (roomOf cluster)) (stepsOf plan))
   unfolding planVerdict
@@ -396,7 +450,7 @@ module _ (cluster plan : List ℕ) where
     λ e. let h = late-shaped cluster plan (Verdict.Refused Fault.OffTarget) refl e in
         (h .0, steps-off (roomOf cluster) (costOf (roomOf cluster) (stepsOf plan)) (currentOf (roomOf cluster)) 1 (stepsOf plan) (h .1)),
     λ a. shaped-verdict cluster plan (a .0) ∙
-        steps-away (roomOf cluster) (Verdict.Accepted (costOf (roomOf cluster) (stepsOf plan))) (currentOf (roomOf cluster)) 1 (stepsOf plan) (a .1 .sound) (a .1 .missed),
+        steps-away (roomOf cluster) (Verdict.Accepted (costOf (roomOf cluster) (stepsOf plan))) (currentOf (roomOf cluster)) 1 (stepsOf plan) (a .1 .sound) (a .1 .well-sourced) (a .1 .missed),
   )
 
   -- the step of a refusal is one of the plan's
@@ -427,6 +481,7 @@ module _ (cluster : List ℕ) where
   unfolding verdictOf onPlan planVerdict stepsVerdict costOf costFrom
   no-steps plan w e = rw (w, e) refl
 
-  -- 0 bytes and a header with 0 steps: the same verdict on every cluster, whatever its bytes
-  pub empty-as-header : verdictOf cluster [] ≡ verdictOf cluster (headerBytes 7 0)
-  empty-as-header = no-steps [] (sym (plan-empty [] refl)) (empty-steps [] refl) ∙ sym (no-steps (headerBytes 7 0) header-whole header-steps)
+  -- 0 bytes and a header with 0 steps, of either version: the same verdict on every cluster, whatever its bytes
+  pub empty-as-header : (version : ℕ) → (version ≡ 1) ⊎ (version ≡ 2) → verdictOf cluster [] ≡ verdictOf cluster (headerBytes version 7 0)
+  empty-as-header version k =
+      no-steps [] (sym (plan-empty [] refl)) (empty-steps [] refl) ∙ sym (no-steps (headerBytes version 7 0) (header-whole version k) (header-steps version))

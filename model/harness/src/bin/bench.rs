@@ -1,8 +1,9 @@
-//! Measures the library's `check` beside the model and the baseline on the inputs of `inputs`, after
-//! comparing library, baseline and model on each; with the planner, `build` beside the model on
-//! those of `rooms`. Buffers are not cleared between calls, so caches are warm.
+//! Measures the library's `check` beside the model and the baseline on the inputs of `inputs`, each
+//! as a plan of version 1 and of version 2, after comparing library, baseline and model on both;
+//! with the planner, `build` beside the model on those of `rooms`. Buffers are not cleared between
+//! calls, so caches are warm.
 
-use kobdrieft_harness::inputs::{all, Input};
+use kobdrieft_harness::inputs::{all, Input, Outcome};
 use kobdrieft_harness::timing::measure;
 use kobdrieft_harness::{baseline, check, streams};
 use kobdrieft_model as model;
@@ -27,21 +28,28 @@ fn checks() {
 
 fn print_list(inputs: &[Input]) {
     println!(
-        "{:<22}{:>6}{:>5}{:>13}{:>7}{:>7}  outcome",
+        "{:<26}{:>6}{:>5}{:>13}{:>7}{:>7}  outcome, version 2",
         "input", "nodes", "VMs", "constraints", "steps", "moves"
     );
     for input in inputs {
         let (nodes, vms) = (input.room.nodes.len(), input.room.vms.len());
         let (constraints, steps) = (input.room.constraints.len(), input.steps.len());
         let moves: usize = input.steps.iter().map(Vec::len).sum();
-        let outcome = match input.outcome {
-            None => "accepted".to_string(),
-            Some((number, step)) => format!("{number}, step {step}"),
+        let outcome = match input.outcomes {
+            [one, two] if one == two => words(two),
+            [one, two] => format!("{}; in version 1 {}", words(two), words(one)),
         };
         println!(
-            "{:<22}{nodes:>6}{vms:>5}{constraints:>13}{steps:>7}{moves:>7}  {outcome}",
+            "{:<26}{nodes:>6}{vms:>5}{constraints:>13}{steps:>7}{moves:>7}  {outcome}",
             input.name
         );
+    }
+}
+
+fn words(outcome: Outcome) -> String {
+    match outcome {
+        None => "accepted".to_string(),
+        Some((number, step)) => format!("{number}, step {step}"),
     }
 }
 
@@ -49,16 +57,18 @@ fn print_list(inputs: &[Input]) {
 
 /// Stops unless the input is what it was made to be and all three checkers say so.
 fn verify(input: &Input) {
-    let verdict = model::check(&input.cluster, &input.plan);
-    let outcome = match verdict {
-        model::Verdict::Accepted { .. } => None,
-        model::Verdict::Refused { number, step } => Some((number, step)),
-    };
-    expect(outcome == input.outcome, input.name, "the model's outcome is another");
-    let packed = model::pack_verdict(verdict);
-    expect(check(&input.cluster, &input.plan) == packed, input.name, "the library differs");
-    let simple = baseline::check(&input.cluster, &input.plan);
-    expect(simple == packed, input.name, "the baseline differs");
+    for (plan, made_for) in input.plans.iter().zip(input.outcomes) {
+        let verdict = model::check(&input.cluster, plan);
+        let outcome = match verdict {
+            model::Verdict::Accepted { .. } => None,
+            model::Verdict::Refused { number, step } => Some((number, step)),
+        };
+        expect(outcome == made_for, input.name, "the model's outcome is another");
+        let packed = model::pack_verdict(verdict);
+        expect(check(&input.cluster, plan) == packed, input.name, "the library differs");
+        let simple = baseline::check(&input.cluster, plan);
+        expect(simple == packed, input.name, "the baseline differs");
+    }
 }
 
 /// Compares the baseline with the model on other inputs; how many.
@@ -77,7 +87,7 @@ fn verify_baseline() -> usize {
     cases(1, 20_000).for_each(|case| compare(&case.cluster, &case.plan));
     let mut rng = Rng::new(1);
     for room in (0..200).map(|_| streams::large(&mut rng)) {
-        room.plans.iter().for_each(|plan| compare(&room.cluster, plan));
+        room.plans.iter().for_each(|(plan, _)| compare(&room.cluster, plan));
     }
     compared
 }
@@ -91,36 +101,79 @@ fn expect(good: bool, name: &str, what: &str) {
 
 // ---------------------------------------------------------------- then speed
 
+/// What the library's times are held against, and the times that are shown as ratios.
+const RATIOS: [&str; 5] = [
+    "to the model",
+    "to the baseline",
+    "to the model, version 2",
+    "to the baseline, version 2",
+    "of version 2 to version 1",
+];
+
+/// A row for each input: its plan in version 1, then in version 2 (v2), then what the library takes
+/// on version 2 as against version 1.
 fn print_table(inputs: &[Input]) {
-    println!("| input | record bytes | plan bytes | library µs | model µs | ratio | baseline µs | ratio |");
-    println!("|---|--:|--:|--:|--:|--:|--:|--:|");
-    let mut largest = [(0.0, ""); 2];
+    let one = "plan bytes | library µs | model µs | ratio | baseline µs | ratio";
+    let two = "v2 bytes | v2 library µs | v2 model µs | ratio | v2 baseline µs | ratio";
+    println!("| input | record bytes | {one} | {two} | v2 / v1 |");
+    println!("|---|{}", "--:|".repeat(14));
+    let mut largest = [(0.0, ""); RATIOS.len()];
     for input in inputs {
-        let [library, plain, simple] = times(input);
-        let ratios = [library / plain, library / simple];
-        let (record, plan) = (input.cluster.len(), input.plan.len());
-        let (library, plain, simple) = (library / 1e3, plain / 1e3, simple / 1e3);
-        println!(
-            "| {} | {record} | {plan} | {library:.2} | {plain:.2} | {:.2} | {simple:.2} | {:.2} |",
-            input.name, ratios[0], ratios[1]
-        );
+        let times = times(input);
+        let ratios = ratios(times);
+        let (name, record) = (input.name, input.cluster.len());
+        let cells = [0, 1].map(|v| {
+            let [library, plain, simple] = times[v].map(|nanos| nanos / 1e3);
+            let (bytes, to) = (input.plans[v].len(), &ratios[2 * v..]);
+            let (model, baseline) = (to[0], to[1]);
+            format!(
+                "{bytes} | {library:.2} | {plain:.2} | {model:.2} | {simple:.2} | {baseline:.2}"
+            )
+        });
+        println!("| {name} | {record} | {} | {:.2} |", cells.join(" | "), ratios[4]);
         for (most, ratio) in largest.iter_mut().zip(ratios) {
             if ratio > most.0 {
-                *most = (ratio, input.name);
+                *most = (ratio, name);
             }
         }
     }
-    println!("\nlargest ratio to the baseline {:.2} ({})", largest[1].0, largest[1].1);
-    println!("largest ratio to the model {:.2} ({})", largest[0].0, largest[0].1);
+    println!();
+    for (to, (ratio, name)) in RATIOS.iter().zip(largest) {
+        println!("largest ratio {to} {ratio:.2} ({name})");
+    }
 }
 
-/// Median nanoseconds a call: the library, the model, the baseline.
-fn times(input: &Input) -> [f64; 3] {
-    let (cluster, plan) = (&input.cluster[..], &input.plan[..]);
-    let library = || check(black_box(cluster), black_box(plan));
-    let plain = || model::pack_verdict(model::check(black_box(cluster), black_box(plan)));
-    let simple = || baseline::check(black_box(cluster), black_box(plan));
-    measure([&library, &plain, &simple]).map(|time| time.nanos)
+/// The ratios of `RATIOS`.
+fn ratios([one, two]: [[f64; 3]; 2]) -> [f64; RATIOS.len()] {
+    let [library, plain, simple] = one;
+    let [library_2, plain_2, simple_2] = two;
+    [
+        library / plain,
+        library / simple,
+        library_2 / plain_2,
+        library_2 / simple_2,
+        library_2 / library,
+    ]
+}
+
+/// Median nanoseconds a call on each version: the library, the model, the baseline.
+fn times(input: &Input) -> [[f64; 3]; 2] {
+    let cluster = &input.cluster[..];
+    let [one, two] = [0, 1].map(|version| &input.plans[version][..]);
+    let library = |plan: &[u8]| check(black_box(cluster), black_box(plan));
+    let plain =
+        |plan: &[u8]| model::pack_verdict(model::check(black_box(cluster), black_box(plan)));
+    let simple = |plan: &[u8]| baseline::check(black_box(cluster), black_box(plan));
+    let [a, b, c, d, e, f] = measure([
+        &|| library(one),
+        &|| library(two),
+        &|| plain(one),
+        &|| plain(two),
+        &|| simple(one),
+        &|| simple(two),
+    ])
+    .map(|time| time.nanos);
+    [[a, c, e], [b, d, f]]
 }
 
 // ---------------------------------------------------------------- the planner

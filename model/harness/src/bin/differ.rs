@@ -1,7 +1,7 @@
 //! `differ SEED COUNT [--seconds N]`: holds the library beside the model on all hand-set inputs,
 //! on COUNT generated ones, on as many puzzles for the planner and on larger rooms, and fails on
 //! any difference. Each of their clusters is also checked beside no plan bytes and beside the
-//! header of a plan of no steps, which must get one verdict.
+//! header of a plan of no steps in either version, which must get one verdict.
 use kobdrieft_harness::builds::buffer_length;
 use kobdrieft_harness::report::{Report, Stream};
 use kobdrieft_harness::streams::large;
@@ -54,8 +54,8 @@ fn read_words(words: &[String]) -> Option<Words> {
 
 fn hand_set(report: &mut Report) {
     for edge in edges() {
-        report.check(Stream::HandSet, &edge.cluster, &edge.plan);
-        report.pair(Stream::HandSet, &edge.cluster);
+        report.check(Stream::HandSet, &edge.cluster, &edge.plan, None);
+        report.no_steps(Stream::HandSet, &edge.cluster);
         report.build(Stream::HandSet, &edge.cluster, edge.buffer);
     }
 }
@@ -71,8 +71,8 @@ fn generated(report: &mut Report, words: &Words) -> usize {
             println!("time is up after {i} generated cases");
             return i;
         }
-        report.check(Stream::Generated, &case.cluster, &case.plan);
-        report.pair(Stream::Generated, &case.cluster);
+        report.check(Stream::Generated, &case.cluster, &case.plan, case.origin);
+        report.no_steps(Stream::Generated, &case.cluster);
         planned(report, i, &case.cluster, &mut puzzles);
         if i % CASES_A_ROOM == 0 {
             large_room(report, &mut rooms);
@@ -87,15 +87,15 @@ fn planned(report: &mut Report, turn: usize, cluster: &[u8], puzzles: &mut Rng) 
         report.build(Stream::Generated, cluster, buffer_length(turn / 2));
     }
     let puzzle = cluster_bytes(&puzzle(puzzles));
-    report.pair(Stream::Puzzles, &puzzle);
+    report.no_steps(Stream::Puzzles, &puzzle);
     report.build(Stream::Puzzles, &puzzle, buffer_length(turn));
 }
 
 fn large_room(report: &mut Report, rng: &mut Rng) {
     let room = large(rng);
-    for plan in &room.plans {
-        report.check(Stream::Large, &room.cluster, plan);
+    for (plan, origin) in &room.plans {
+        report.check(Stream::Large, &room.cluster, plan, *origin);
     }
-    report.pair(Stream::Large, &room.cluster);
+    report.no_steps(Stream::Large, &room.cluster);
     report.build(Stream::Large, &room.cluster, BUFFER);
 }

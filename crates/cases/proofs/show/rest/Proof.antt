@@ -6,7 +6,7 @@ use Rattle.cases.proofs.show.rest.Reads as reads
 use Rattle.cases.proofs.show.rest.Lts as lts
 
 abbrev Inv-loop : tie.InvT-loop
-Inv-loop out n₀ n = n ≤ 2100
+Inv-loop out n₀ n = n ≤ 2600
 
 abbrev μ-loop : tie.MeasureT-loop
 μ-loop out n₀ n = n

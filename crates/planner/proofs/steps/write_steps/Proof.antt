@@ -44,7 +44,7 @@ has-moves-requires c κs = search needs
 
 put-moves-requires : tie.Need-put-moves-requires Inv-loop μ-loop
 put-moves-requires c κs =
-    let els = c .before .before in
+    let els = c .before .before .before in
     let has = els .before in
     let nxt = has .before .before in
     let head = nxt .before in
@@ -56,7 +56,7 @@ put-moves-requires c κs =
 finish-step-requires : tie.Need-finish-step-requires Inv-loop μ-loop
 finish-step-requires c κs =
     let put = c .before .before .before in
-    let els = put .before .before .before in
+    let els = put .before .before .before .before in
     let has = els .before in
     let nxt = has .before .before in
     let head = nxt .before in
@@ -72,7 +72,7 @@ add-steps : tie.Need-add-steps Inv-loop μ-loop
 add-steps c =
     let fin = c .before .before .before .before in
     let put = fin .before .before .before .before in
-    let els = put .before .before .before in
+    let els = put .before .before .before .before in
     let has = els .before in
     let nxt = has .before .before in
     let head = nxt .before in
@@ -85,7 +85,7 @@ add-moves : tie.Need-add-moves Inv-loop μ-loop
 add-moves c =
     let fin = c .before .before .before .before in
     let put = fin .before .before .before .before in
-    let els = put .before .before .before in
+    let els = put .before .before .before .before in
     let has = els .before in
     let nxt = has .before .before in
     let head = nxt .before in
@@ -98,7 +98,7 @@ loop-less : tie.Need-loop-less Inv-loop μ-loop
 loop-less c =
     let fin = c .before .before .before .before in
     let put = fin .before .before .before .before in
-    let els = put .before .before .before in
+    let els = put .before .before .before .before in
     let has = els .before in
     let nxt = has .before .before in
     let head = nxt .before in
@@ -111,7 +111,7 @@ loop-again : tie.Need-loop-again Inv-loop μ-loop
 loop-again c =
     let fin = c .before .before .before .before in
     let put = fin .before .before .before .before in
-    let els = put .before .before .before in
+    let els = put .before .before .before .before in
     let has = els .before in
     let nxt = has .before .before in
     let head = nxt .before in

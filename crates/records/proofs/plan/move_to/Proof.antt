@@ -5,18 +5,20 @@ use Rattle.records.proofs.plan.move_to.Tie as tie
 use Rattle.records.proofs.plan.move_to.Reads as reads
 use Rattle.records.proofs.plan.move_to.Lts as lts
 use Rattle.records.proofs.bytes.byte.Reads as byte-reads
+use Rattle.records.proofs.plan.move_place.Reads as move-place-reads
+use Rattle.records.proofs.plan.moves_size.Reads as moves-size-reads
+
+move-place-requires : tie.Need-move-place-requires
+move-place-requires c κs = search needs
+
+moves-size-requires : tie.Need-moves-size-requires
+moves-size-requires c κs = search needs
 
 add-byte : tie.Need-add-byte
 add-byte c = search needs
 
-mul-byte : tie.Need-mul-byte
-mul-byte c = search needs
-
-add-byte-2 : tie.Need-add-byte-2
-add-byte-2 c = search needs
-
-add-byte-3 : tie.Need-add-byte-3
-add-byte-3 c = search needs
+sub-byte : tie.Need-sub-byte
+sub-byte c = search needs
 
 byte-requires : tie.Need-byte-requires
 byte-requires c κs = search needs
@@ -25,4 +27,6 @@ returns : tie.Need-returns
 returns c = search (needs, move-to-is)
 
 pub move-to-spec : {M : Type 1} → statement M
-move-to-spec = tie.close (tie.spec add-byte mul-byte add-byte-2 add-byte-3 byte-requires returns)
+move-to-spec =
+    tie.close
+    (tie.spec move-place-requires moves-size-requires add-byte sub-byte byte-requires returns)

@@ -9,6 +9,7 @@ use Rattle.records.proofs.plan.steps_sound.Tie as tie
 use Rattle.records.proofs.plan.steps_sound.Reads as reads
 use Rattle.records.proofs.plan.steps_sound.Lts as lts
 use Rattle.records.proofs.bytes.count16.Reads as count16-reads
+use Rattle.records.proofs.plan.moves_size.Reads as moves-size-reads
 
 abbrev Inv-loop : tie.InvT-loop
 Inv-loop s count at₀ left₀ moves₀ at left moves = (at ≤ length s) × (moves + left * 256 ≤ 131072) × (stepsOk s at left moves ≡ stepsOk s 7 count 0)
@@ -34,23 +35,20 @@ returns-2 c = search (needs, steps-none)
 returns-3 : tie.Need-returns-3 Inv-loop μ-loop
 returns-3 c = search (needs, steps-many)
 
+moves-size-requires : tie.Need-moves-size-requires Inv-loop μ-loop
+moves-size-requires c κs = search needs
+
 sub-if4 : tie.Need-sub-if4 Inv-loop μ-loop
 sub-if4 c = search needs
 
 sub-if4-2 : tie.Need-sub-if4-2 Inv-loop μ-loop
 sub-if4-2 c = search needs
 
-mul-if4 : tie.Need-mul-if4 Inv-loop μ-loop
-mul-if4 c = search needs
-
 returns-4 : tie.Need-returns-4 Inv-loop μ-loop
 returns-4 c = search (needs, steps-long)
 
 add-at : tie.Need-add-at Inv-loop μ-loop
 add-at c = search needs
-
-mul-at : tie.Need-mul-at Inv-loop μ-loop
-mul-at c = search needs
 
 add-at-2 : tie.Need-add-at-2 Inv-loop μ-loop
 add-at-2 c = search needs
@@ -85,12 +83,11 @@ steps-sound-spec =
     count16-requires
     returns-2
     returns-3
+    moves-size-requires
     sub-if4
     sub-if4-2
-    mul-if4
     returns-4
     add-at
-    mul-at
     add-at-2
     add-moves
     sub-left

@@ -25,6 +25,12 @@ add-out c = search needs
 slice-write-out-2 : tie.Need-slice-write-out-2
 slice-write-out-2 c = simp length-set (omega arith)
 
+add-out-2 : tie.Need-add-out-2
+add-out-2 c = search needs
+
+slice-write-out-3 : tie.Need-slice-write-out-3
+slice-write-out-3 c = simp length-set (omega arith)
+
 same-length : tie.Need-same-length
 same-length c = search needs
 
@@ -41,5 +47,7 @@ append-move-spec =
     slice-write-out
     add-out
     slice-write-out-2
+    add-out-2
+    slice-write-out-3
     same-length
     returns)
