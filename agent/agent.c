@@ -7,7 +7,8 @@
  * before it is written. A file that could not be written whole is refused by the checker; only where the plan
  * has no steps does a file of 0 bytes stand for the same.
  *
- * A line says what came of it. Behind it stands a line for each move made: step, VM, source, destination.
+ * A line says what came of it. Behind it stands a line for each move made: step, VM, source, destination. 255
+ * is no node: the source of a launch, the destination of a shutdown.
  *
  * Exit status:
  *   0  a plan was made and written

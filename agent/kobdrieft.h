@@ -11,8 +11,8 @@
  *
  * Threads. There is no state: any number of threads may call at once, each with an `out` of its own.
  *
- * Stack. Measured on full clusters, x86-64: `kobdrieft_check` takes 34,127 bytes (512 steps), `kobdrieft_build`
- * 119,215 (1 step) and 119,127 (500 steps): it does not grow with the steps. Give a thread KOB_CHECK_STACK or
+ * Stack. Measured on full clusters, x86-64: `kobdrieft_check` takes 34,303 bytes (512 steps), `kobdrieft_build`
+ * 122,287 (1 step) and 122,199 (500 steps): it does not grow with the steps. Give a thread KOB_CHECK_STACK or
  * KOB_BUILD_STACK, and what it needs itself.
  *
  * No call allocates, does I/O, or calls anything but memcpy, memmove, memset and memcmp.
@@ -24,14 +24,14 @@
 #include <stdint.h>
 
 /* Grows whenever this interface changes, or what its calls answer. */
-#define KOBDRIEFT_VERSION 3
+#define KOBDRIEFT_VERSION 4
 
 #ifdef __cplusplus
 extern "C" {
 #endif
 
-/* The verdict on a plan record of version 1 or 2 for a cluster record. A plan of 0 bytes is one of no steps,
- * as a header with 0 steps is: do not lend a plan whose file could not be read. */
+/* The verdict on a plan record of version 1 or 2 for a cluster record of version 1 or 2. A plan of 0 bytes is
+ * one of no steps, as a header with 0 steps is: do not lend a plan whose file could not be read. */
 uint64_t kobdrieft_check(const uint8_t *cluster, size_t cluster_len, const uint8_t *plan, size_t plan_len);
 
 /* Plans for a cluster record. Of a plan and of blocked, the steps made stand as a plan record at the front
@@ -57,6 +57,13 @@ uint64_t kobdrieft_build(const uint8_t *cluster, size_t cluster_len, uint8_t *ou
 
 #define KOB_CHECK_STACK (40 * 1024)  /* `kobdrieft_check` takes less than this */
 #define KOB_BUILD_STACK (128 * 1024) /* `kobdrieft_build` takes less than this */
+
+/* ---- places */
+
+/* The place of a VM that is on no node: in a cluster record of version 2 where it is or where it is wanted,
+ * in a plan of either version the destination of a shutdown, and where sources are named that of a launch. No
+ * node has this number. */
+#define KOB_NOWHERE 255
 
 /* ---- what a result says */
 
@@ -183,13 +190,13 @@ static inline size_t kob_plan_length(const uint8_t *record)
     return kob_number(record + 1, 4);
 }
 
-/* The node that a VM is on at the start, from a cluster record with none of the faults 1 to 9. Returns 0, and
- * sets nothing, if the record has no such VM. Of other bytes it may give any node or none, but it never reads
- * outside them. */
+/* The node that a VM is on at the start, or KOB_NOWHERE, from a cluster record with none of the faults 1 to 9.
+ * Returns 0, and sets nothing, if the record has no such VM. Of other bytes it may give any number or none, but
+ * it never reads outside them. */
 static inline int kob_vm_current(const uint8_t *cluster, size_t cluster_len, unsigned vm, unsigned *node)
 {
     const size_t header = 11, node_row = 5, vm_row = 7, current = 5;
-    if (cluster_len < header || cluster[0] != 1 || vm >= kob_number(cluster + 7, 2))
+    if (cluster_len < header || cluster[0] < 1 || cluster[0] > 2 || vm >= kob_number(cluster + 7, 2))
         return 0;
     size_t place = header + node_row * kob_number(cluster + 5, 2) + vm_row * vm + current;
     if (place >= cluster_len)
@@ -280,12 +287,13 @@ static inline int kob_read_step(kob_reader *reader, unsigned *moves)
     return 1;
 }
 
-/* The source of a move that names none. No node has this number. */
+/* The source of a move that names none. It is no byte, so neither a node nor KOB_NOWHERE. */
 #define KOB_NO_SOURCE 256
 
-/* Gives the next move of this step: a VM, the node that the move names as its source, and the node it goes
- * to. In version 1 the source is KOB_NO_SOURCE. Returns 0 if the step has no more. Whether the VM is on that
- * source when the step starts is what kob_check says: if not, it refuses with 27. */
+/* Gives the next move of this step: a VM, the place that the move names as its source, and the place it goes
+ * to. In version 1 the source is KOB_NO_SOURCE. Returns 0 if the step has no more. In a plan that kob_check
+ * accepts a place is a node or KOB_NOWHERE, and the VM is at that source when the step starts; if it is not,
+ * kob_check refuses with 27. */
 static inline int kob_read_move_from(kob_reader *reader, unsigned *vm, unsigned *source,
                                      unsigned *destination)
 {

@@ -77,7 +77,7 @@ static void test_texts(void)
     expect(strstr(kob_fault_text(KOB_FAULT_ELSEWHERE), "source") != NULL, "text 27");
     expect(strcmp(kob_fault_text(256), "Unknown number.") == 0, "text of 256");
     expect(strcmp(kob_fault_text(~0u), "Unknown number.") == 0, "text of the largest number");
-    expect(KOBDRIEFT_VERSION == 3, "the interface's version");
+    expect(KOBDRIEFT_VERSION == 4, "the interface's version");
     group("texts");
 }
 
@@ -86,16 +86,16 @@ static void test_texts(void)
 static void test_empty(void)
 {
     uint8_t out[KOB_BUILD_BUFFER];
-    uint8_t *nowhere = (uint8_t *)(uintptr_t)1;
+    uint8_t *astray = (uint8_t *)(uintptr_t)1;
     memset(out, FILL, sizeof out);
     expect(kob_check(NULL, 0, NULL, 0) == refused(1, 0), "check, both NULL");
     expect(kob_check(NULL, 0, plan_a, sizeof plan_a) == refused(1, 0), "check, cluster NULL");
     expect(kob_check(cluster_a, sizeof cluster_a, NULL, 0) == refused(19, 0), "check, plan NULL");
-    expect(kob_check(cluster_a, sizeof cluster_a, nowhere, 0) == refused(19, 0), "check, plan nowhere");
+    expect(kob_check(cluster_a, sizeof cluster_a, astray, 0) == refused(19, 0), "check, plan astray");
     expect(kob_build(NULL, 0, NULL, 0) == refused(1, 0), "build, both NULL");
     expect(kob_build(NULL, 0, out, sizeof out) == refused(1, 0), "build, cluster NULL");
     expect(kob_build(cluster_a, sizeof cluster_a, NULL, 0) == refused(10, 0), "build, buffer NULL");
-    expect(kob_build(cluster_a, sizeof cluster_a, nowhere, 0) == refused(10, 0), "build, buffer nowhere");
+    expect(kob_build(cluster_a, sizeof cluster_a, astray, 0) == refused(10, 0), "build, buffer astray");
     expect(all_are(out, sizeof out, FILL), "refusals write nothing");
     group("length 0");
 }
@@ -274,6 +274,100 @@ static void test_cluster_a(void)
     group("cluster A");
 }
 
+/* ---- VMs that are launched and shut down */
+
+/* A in version 2: VM 0 is to shut down, VM 1 is down and to be launched on node 0, which has space for one. */
+static void turnover(uint8_t cluster[sizeof cluster_a])
+{
+    memcpy(cluster, cluster_a, sizeof cluster_a);
+    cluster[0] = 2;
+    cluster[32] = KOB_NOWHERE; /* VM 0's target */
+    cluster[38] = KOB_NOWHERE; /* VM 1's current node */
+}
+
+static const uint8_t turnover_plan[17] = {2, 0, 0, 0, 17, 0, 2, 0, 1, 0, 0, 255, 0, 1, 1, 255, 0};
+
+/* The launch waits a step for the memory that the shutdown leaves: cost 0 + (2 + 0). */
+static void test_turnover_built(void)
+{
+    uint8_t cluster[sizeof cluster_a];
+    uint8_t *out = filled(KOB_BUILD_BUFFER);
+    unsigned node;
+    turnover(cluster);
+    expect(kob_build(cluster, sizeof cluster, out, KOB_BUILD_BUFFER) == made(KOB_PLAN, 2, 2, 2), "two steps, cost 2");
+    expect(memcmp(out, turnover_plan, sizeof turnover_plan) == 0, "a shutdown, then a launch");
+    expect(all_are(out + 17, KOB_BUILD_BUFFER - 17, FILL), "the bytes behind the record stay");
+    expect(kob_check(cluster, sizeof cluster, out, kob_plan_length(out)) == 2, "accepted at cost 2");
+    expect(kob_vm_current(cluster, sizeof cluster, 1, &node) && node == KOB_NOWHERE, "VM 1 is on no node");
+    cluster[0] = 1;
+    memset(out, FILL, KOB_BUILD_BUFFER);
+    expect(kob_build(cluster, sizeof cluster, out, KOB_BUILD_BUFFER) == refused(6, 0), "255 in version 1 is 6");
+    expect(all_are(out, KOB_BUILD_BUFFER, FILL), "a refusal writes nothing");
+    free(out);
+}
+
+/* The verdict on a plan for that cluster. */
+static uint64_t verdict_on_turnover(const uint8_t *plan, size_t len)
+{
+    uint8_t cluster[sizeof cluster_a];
+    turnover(cluster);
+    return kob_check(cluster, sizeof cluster, plan, len);
+}
+
+static void test_turnover_checked(void)
+{
+    static const uint8_t plain[15] = {1, 0, 0, 0, 15, 0, 2, 0, 1, 0, 255, 0, 1, 1, 0};
+    static const uint8_t both[13] = {1, 0, 0, 0, 13, 0, 1, 0, 2, 0, 255, 1, 0};
+    static const uint8_t kill[11] = {1, 0, 0, 0, 11, 0, 1, 0, 1, 0, 255};
+    static const uint8_t down[11] = {1, 0, 0, 0, 11, 0, 1, 0, 1, 1, 255};
+    uint8_t source[sizeof turnover_plan];
+    expect(verdict_on_turnover(plain, sizeof plain) == 2, "the same plan in version 1");
+    expect(verdict_on_turnover(both, sizeof both) == refused(17, 1), "a shutdown pays for no launch of its step");
+    expect(verdict_on_turnover(down, sizeof down) == refused(15, 1), "what is wanted on a node is not shut down");
+    expect(verdict_on_turnover(kill, sizeof kill) == refused(19, 0), "the launch left out");
+    expect(kob_check(cluster_a, sizeof cluster_a, kill, sizeof kill) == refused(15, 1), "no shutdown in version 1");
+    memcpy(source, turnover_plan, sizeof source);
+    source[15] = 0; /* the launch's source */
+    expect(verdict_on_turnover(source, sizeof source) == refused(27, 2), "a launch comes from no node");
+    source[15] = 254;
+    expect(verdict_on_turnover(source, sizeof source) == refused(27, 2), "nor from node 254");
+}
+
+/* Every byte value as either node byte of VM 0, in either version: beside nodes 0 to 2 only 255, in version 2. */
+static void test_places(void)
+{
+    uint8_t cluster[sizeof cluster_a];
+    for (unsigned version = 1; version <= 2; version++)
+        for (size_t byte = 31; byte <= 32; byte++) {
+            int good = 1;
+            memcpy(cluster, cluster_a, sizeof cluster);
+            cluster[0] = (uint8_t)version;
+            for (unsigned place = 0; place < 256; place++) {
+                cluster[byte] = (uint8_t)place;
+                uint64_t verdict = kob_check(cluster, sizeof cluster, NULL, 0);
+                int known = place < 3 || (place == KOB_NOWHERE && version == 2);
+                good = good && (known ? kob_refusal_number(verdict) != 6 : verdict == refused(6, 0));
+            }
+            expect(good, "the places of a VM row");
+        }
+    int good = 1;
+    memcpy(cluster, cluster_a, sizeof cluster);
+    for (unsigned version = 0; version < 256; version++) {
+        cluster[0] = (uint8_t)version;
+        uint64_t wanted = version == 1 || version == 2 ? refused(19, 0) : refused(2, 0);
+        good = good && kob_check(cluster, sizeof cluster, NULL, 0) == wanted;
+    }
+    expect(good, "the versions of a cluster record");
+}
+
+static void test_turnover(void)
+{
+    test_turnover_built();
+    test_turnover_checked();
+    test_places();
+    group("launches and shutdowns");
+}
+
 /* ---- records that lie against inaccessible pages */
 
 static struct fenced cluster_fence, plan_fence;
@@ -325,6 +419,14 @@ static void test_cut(void)
         expect(check_stays(cluster_a, sizeof cluster_a, plain_a, len), "check of A's plan in version 1, cut");
     for (size_t len = 0; len <= KOB_BUILD_BUFFER + 1; len += len < KOB_BUILD_BUFFER - 11 ? 17 : 1)
         expect(build_stays(cluster_a, sizeof cluster_a, len), "build of A into a buffer of any length");
+    uint8_t cluster[sizeof cluster_a];
+    turnover(cluster);
+    for (size_t len = 0; len <= sizeof cluster; len++) {
+        expect(check_stays(cluster, len, turnover_plan, sizeof turnover_plan), "check in version 2, cut");
+        expect(build_stays(cluster, len, KOB_BUILD_BUFFER), "build in version 2, cut");
+    }
+    for (size_t len = 0; len <= sizeof turnover_plan; len++)
+        expect(check_stays(cluster, sizeof cluster, turnover_plan, len), "check of its plan, cut");
 }
 
 /* The largest records there are. */
@@ -360,6 +462,8 @@ static void test_damaged(void)
         memcpy(plan, plan_a, sizeof plan);
         damage(plan, sizeof plan);
         check_good = check_good && check_stays(cluster_a, sizeof cluster, plan, sizeof plan);
+        if (i % 2 == 1)
+            turnover(cluster);
         damage(cluster, sizeof cluster);
         check_good = check_good && check_stays(cluster, sizeof cluster, plan_a, sizeof plan);
         build_good = build_good && build_stays(cluster, sizeof cluster, KOB_BUILD_BUFFER);
@@ -404,6 +508,7 @@ int main(void)
     test_empty();
     test_no_plan();
     test_cluster_a();
+    test_turnover();
     test_pages();
     return status();
 }

@@ -454,7 +454,13 @@ static void test_current_a(void)
     expect(current_is_none(NULL, 0, 0), "0 bytes: there is no VM 0");
     memcpy(other, cluster_a, sizeof other);
     other[0] = 2;
-    expect(current_is_none(other, sizeof other, 0), "another version: there is no VM 0");
+    other[38] = KOB_NOWHERE;
+    expect(current_is(other, sizeof other, 0, 0), "version 2: VM 0 is on node 0");
+    expect(current_is(other, sizeof other, 1, KOB_NOWHERE), "version 2: VM 1 is on no node");
+    other[0] = 3;
+    expect(current_is_none(other, sizeof other, 0), "version 3: there is no VM 0");
+    other[0] = 0;
+    expect(current_is_none(other, sizeof other, 0), "version 0: there is no VM 0");
 }
 
 /* VM 0's current node is byte 31, VM 1's is byte 38. */

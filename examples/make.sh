@@ -1,5 +1,5 @@
 #!/usr/bin/env bash
-# Makes every record here anew from its text: NAME.cluster from NAME.room, NAME.plan from NAME.steps. A NAME.plan without NAME.steps stays.
+# Makes every record here anew from its text: NAME.cluster from NAME.room, NAME.plan from NAME.steps. A record without a text stays.
 set -euo pipefail
 cd "$(dirname "$0")"
 

@@ -53,6 +53,14 @@ bytes 01 0000000d 0001 0002 00 01 01 00 >both
 : >empty
 bytes 01 00000028 0003 0002 0000 0000040064 0000040064 0000040064 0000030032 00 00 0000020032 01 01 >home
 head -c 6 none >cut
+# VM 0 is to shut down, VM 1 to be launched on the node that it leaves; then the same record with version 1 and version 3 in front
+turnover=(00000028 0003 0002 0000 0000040064 0000040064 0000040064 0000030032 00 ff 0000020032 ff 00)
+bytes 02 "${turnover[@]}" >turnover
+bytes 01 "${turnover[@]}" >turnover-1
+bytes 03 "${turnover[@]}" >turnover-3
+bytes 02 00000011 0002 0001 00 00 ff 0001 01 ff 00 >'plan of turnover'
+bytes 01 0000000d 0001 0002 00 ff 01 00 >at-once
+bytes 01 0000000b 0001 0001 01 ff >kill
 long_plan 01 65536 65536 >long
 long_plan 01 65536 65537 >longer
 long_plan 01 65537 65537 >honest
@@ -74,7 +82,7 @@ expect 'blocked' 1 'blocked steps 0 moves 0 cost 0' '' "$driver" plan blocked
 expect 'no record to plan' 2 'refused 1 step 0' 'kobdrieft: The cluster record has fewer than 11 bytes.' "$driver" plan empty
 expect 'accepted' 0 'accepted cost 16' '' "$driver" check 'cluster A' 'plan A'
 expect 'accepted in version 1' 0 'accepted cost 16' '' "$driver" check 'cluster A' plain
-expect 'another source' 2 'refused 27 step 3' 'kobdrieft: A move names a source that is not the node its VM is on when the step starts.' "$driver" check 'cluster A' stale
+expect 'another source' 2 'refused 27 step 3' 'kobdrieft: A move names a source that is not the place of its VM when the step starts.' "$driver" check 'cluster A' stale
 expect 'off target' 2 'refused 19 step 0' 'kobdrieft: Every step is sound, but after the last some VM is off its target.' "$driver" check 'cluster A' none
 expect 'off target in version 1' 2 'refused 19 step 0' 'kobdrieft: Every step is sound*' "$driver" check 'cluster A' plain-none
 expect 'does not fit' 2 'refused 17 step 1' 'kobdrieft: In some order*' "$driver" check 'cluster A' both
@@ -94,6 +102,16 @@ expect 'a plan of 4,103 bytes' 2 'refused 14 step 0' 'kobdrieft: *' "$driver" ch
 expect 'a plan of 4,104 bytes' 2 'refused 14 step 0' 'kobdrieft: *' "$driver" check 'cluster A' past
 expect 'a plan of 4,104 bytes, another length stated' 2 'refused 13 step 0' 'kobdrieft: *' "$driver" check 'cluster A' past-untold
 expect 'a plan of 4,104 bytes, another version' 2 'refused 12 step 0' 'kobdrieft: *' "$driver" check 'cluster A' past-versioned
+
+# VMs on no node
+turnover_plan=$'plan steps 2 moves 2 cost 2\n1 0 0 255\n2 1 255 0'
+expect 'a shutdown, then a launch' 0 "$turnover_plan" '' "$driver" plan turnover
+expect 'checked' 0 'accepted cost 2' '' "$driver" check turnover 'plan of turnover'
+expect 'both at once' 2 'refused 17 step 1' 'kobdrieft: In some order*' "$driver" check turnover at-once
+expect 'a shutdown of what is wanted on a node' 2 'refused 15 step 1' 'kobdrieft: *or one that is wanted on a node is shut down.' "$driver" check turnover kill
+expect 'a shutdown in a cluster of version 1' 2 'refused 15 step 1' 'kobdrieft: *' "$driver" check 'cluster A' at-once
+expect '255 in version 1' 2 'refused 6 step 0' 'kobdrieft: A VM has no memory, or is on*' "$driver" plan turnover-1
+expect 'a cluster of version 3' 2 'refused 2 step 0' "kobdrieft: The cluster record's version is neither 1 nor 2." "$driver" plan turnover-3
 
 # the plan record
 written() { "$driver" plan "$1" "$2" && od -An -v -tx1 "$2" | tr -d ' \n'; }
@@ -123,6 +141,14 @@ expect 'check: a read that fails' 3 '' 'verdict: cannot read /proc/self/mem: Inp
 expect 'a record as text' 0 '' '' "$driver" unpack 'cluster A' ../text
 expect 'a record from text' 0 '' '' "$driver" pack ../text ../packed
 expect 'the same record' 0 '' '' cmp 'cluster A' ../packed
+expect 'a record of version 2 as text' 0 '' '' "$driver" unpack turnover ../text
+expect 'its words' 0 2 '' grep -c nowhere ../text
+expect 'a record of version 2 from text' 0 '' '' "$driver" pack ../text ../packed
+expect 'the same record of version 2' 0 '' '' cmp turnover ../packed
+expect 'a plan of launches as text' 0 '' '' "$driver" unpack-plan 'plan of turnover' ../text
+expect 'a plan of launches from text' 0 '' '' "$driver" pack-plan ../text ../packed
+expect 'the same plan of launches' 0 '' '' cmp 'plan of turnover' ../packed
+expect 'a page of launches' 0 '' '' "$driver" draw turnover 'plan of turnover' ../page.html
 expect 'a plan record as text' 0 '' '' "$driver" unpack-plan 'plan A' ../text
 expect 'a plan record from text' 0 '' '' "$driver" pack-plan ../text ../packed
 expect 'the same plan record' 0 '' '' cmp 'plan A' ../packed

@@ -4,7 +4,7 @@
 use crate::planner::BUFFER;
 use crate::records::{
     cluster_bytes, cluster_bytes_with, plan_bytes, state_length, Constraint, Move, Node, Plan,
-    Room, Step, Version, Vm, PLAN_HEADER,
+    Room, Step, Version, Vm, NOWHERE, PLAN_HEADER,
 };
 use crate::sources::{bare, named};
 
@@ -30,8 +30,15 @@ pub fn vm(memory: u64, cpu: u64, current: usize, target: usize) -> Vm {
     Vm { memory, cpu, current, target }
 }
 
+/// A room of version 1.
 pub fn room(nodes: &[Node], vms: &[Vm], constraints: &[Constraint]) -> Room {
-    Room { nodes: nodes.to_vec(), vms: vms.to_vec(), constraints: constraints.to_vec() }
+    let (nodes, vms, constraints) = (nodes.to_vec(), vms.to_vec(), constraints.to_vec());
+    Room { version: Version::One, nodes, vms, constraints }
+}
+
+/// A room of version 2.
+pub fn room_2(nodes: &[Node], vms: &[Vm], constraints: &[Constraint]) -> Room {
+    Room { version: Version::Two, ..room(nodes, vms, constraints) }
 }
 
 /// Steps from pairs of VM and destination.
@@ -101,10 +108,13 @@ impl Edges {
         self.cluster(name, cluster_bytes(room), number);
     }
 
-    /// As `cluster`, from the room at home with raw constraints.
+    /// As `cluster`, from the room at home with raw constraints, in either version.
     fn bodies(&mut self, name: &str, bodies: &[&[u8]], number: u8) {
         let bodies: Vec<Vec<u8>> = bodies.iter().map(|body| body.to_vec()).collect();
-        self.cluster(name, cluster_bytes_with(&at_home(), &bodies), number);
+        for version in Version::ALL {
+            let home = Room { version, ..at_home() };
+            self.cluster(name, cluster_bytes_with(&home, &bodies), number);
+        }
     }
 
     /// A plan's bytes for a room that has none of the faults 1 to 9.
@@ -175,10 +185,12 @@ pub fn edges() -> Vec<Edge> {
     cluster_counts(&mut edges);
     cluster_fill(&mut edges);
     vm_rows(&mut edges);
+    rows_on_no_node(&mut edges);
     constraint_shapes(&mut edges);
     latency_shapes(&mut edges);
     target_sums(&mut edges);
     target_constraints(&mut edges);
+    targets_on_no_node(&mut edges);
     buffers(&mut edges);
     plans_of_no_steps(&mut edges);
     whole_clusters_without_steps(&mut edges);
@@ -190,10 +202,16 @@ pub fn edges() -> Vec<Edge> {
     sources(&mut edges);
     sources_before_other_faults(&mut edges);
     sources_step_by_step(&mut edges);
+    sources_on_no_node(&mut edges);
+    shutdown_names(&mut edges);
     closed_nodes(&mut edges);
     fits(&mut edges);
     spreads(&mut edges);
+    launches_and_shutdowns_fit(&mut edges);
+    launches_and_shutdowns_meet(&mut edges);
     ends(&mut edges);
+    ends_on_no_node(&mut edges);
+    launches_and_shutdowns_planned(&mut edges);
     edges.0
 }
 
@@ -227,10 +245,14 @@ fn cluster_headers(e: &mut Edges) {
     e.cluster("11 bytes, version 0", changed(&good[..11], |b| b[0] = 0), 2);
     e.cluster("11 bytes, length of the whole", good[..11].to_vec(), 3);
     e.cluster("11 bytes that state so, rows missing", restated(&good[..11], |_| ()), 5);
-    for version in [0, 2, 255] {
-        e.cluster("version", changed(&good, |b| b[0] = version), 2);
+    e.cluster("version 2", changed(&good, |b| b[0] = 2), 0);
+    e.cluster("11 bytes, version 2", changed(&good[..11], |b| b[0] = 2), 3);
+    e.cluster("11 bytes, version 3", changed(&good[..11], |b| b[0] = 3), 2);
+    for version in [0, 3, 4, 127, 128, 129, 130, 254, 255] {
+        e.cluster(&format!("version {version}"), changed(&good, |b| b[0] = version), 2);
     }
-    e.cluster("version and length", changed(&good, |b| (b[0], b[4]) = (2, 0)), 2);
+    e.cluster("version and length", changed(&good, |b| (b[0], b[4]) = (3, 0)), 2);
+    e.cluster("version 2 and length", changed(&good, |b| (b[0], b[4]) = (2, 0)), 3);
     e.cluster("length one more", changed(&good, |b| b[4] += 1), 3);
     e.cluster("length one less", changed(&good, |b| b[4] -= 1), 3);
     e.cluster("length wrong in the highest byte", changed(&good, |b| b[1] = 1), 3);
@@ -349,6 +371,44 @@ fn vm_rows(e: &mut Edges) {
     e.room("the largest VM on the largest node", &most, 0);
 }
 
+/// 255 is a place in version 2, as current or as target; no other number that is not below N is.
+fn rows_on_no_node(e: &mut Edges) {
+    let nodes = vec![node(9, 9); 3];
+    let with = |version: Version, row: Vm| {
+        let room = room(&nodes, &[vm(1, 1, 0, 0), row], &[]);
+        cluster_bytes(&Room { version, ..room })
+    };
+    for (current, target) in [(NOWHERE, 1), (1, NOWHERE), (NOWHERE, NOWHERE)] {
+        let (row, name) = (vm(1, 1, current, target), format!("from {current} to {target}"));
+        e.no_steps(&format!("version 1, {name}"), &with(Version::One, row.clone()), 6);
+        let number = if current == target { 0 } else { 19 };
+        e.no_steps(&format!("version 2, {name}"), &with(Version::Two, row), number);
+    }
+    for other in [3, 63, 64, 127, 254] {
+        for row in [vm(1, 1, other, 1), vm(1, 1, 1, other), vm(1, 1, other, NOWHERE)] {
+            let name = format!("version 2, from {} to {}", row.current, row.target);
+            e.cluster(&name, with(Version::Two, row), 6);
+        }
+    }
+    let no_memory = vm(0, 1, NOWHERE, NOWHERE);
+    e.cluster("memory 0 on no node", with(Version::Two, no_memory), 6);
+    let most = vm(16_777_215, 65_535, NOWHERE, NOWHERE);
+    e.cluster("the largest VM stays on no node", with(Version::Two, most), 0);
+    e.cluster("version 2, all on nodes", with(Version::Two, vm(1, 1, 2, 2)), 0);
+    let all = room_2(&[node(0, 0)], &vec![vm(9, 9, NOWHERE, NOWHERE); 256], &[]);
+    e.room("256 VMs stay on no node", &all, 0);
+    let mut wide = room_2(&vec![node(9, 9); 64], &[vm(1, 1, 63, 63)], &[]);
+    e.room("version 2, node 63 of 64", &wide, 0);
+    wide.vms[0].target = 64;
+    e.room("version 2, node 64 of 64", &wide, 6);
+    let over = restated(&with(Version::One, vm(1, 1, NOWHERE, 1)), |b| b.push(0));
+    e.cluster("version 1 with 255, and one byte over", over, 5);
+    let mut both = room(&nodes, &[vm(1, 1, NOWHERE, 1)], &[spread(&[2])]);
+    e.room("version 1 with 255 beside a bad constraint", &both, 6);
+    both.version = Version::Two;
+    e.room("version 2 with 255 beside a bad constraint", &both, 7);
+}
+
 // ---------------------------------------------------------------- 7
 
 fn constraint_shapes(e: &mut Edges) {
@@ -382,6 +442,8 @@ fn constraint_shapes(e: &mut Edges) {
         e.bodies("node list with a byte over", &[&[kind, 0, 0, 0, 0]], 7);
         e.bodies("node N - 1", &[&[kind, 0, 0, 1, 2]], 0);
         e.bodies("node N", &[&[kind, 0, 0, 1, 3]], 7);
+        e.bodies("node 255", &[&[kind, 0, 0, 1, 255]], 7);
+        e.bodies("nodes rise to 255", &[&[kind, 0, 0, 4, 0, 1, 2, 255]], 7);
         e.bodies("nodes equal", &[&[kind, 0, 0, 2, 1, 1]], 7);
         e.bodies("nodes fall", &[&[kind, 0, 0, 2, 1, 0]], 7);
         e.bodies("nodes rise", &[&[kind, 0, 0, 3, 0, 1, 2]], 0);
@@ -417,6 +479,8 @@ fn latency_shapes(e: &mut Edges) {
     e.bodies("group nodes equal", &[&[4, 0, 0, 1, 2, 1, 1]], 7);
     e.bodies("group nodes fall", &[&[4, 0, 0, 1, 2, 1, 0]], 7);
     e.bodies("group node N", &[&[4, 0, 0, 1, 1, 3]], 7);
+    e.bodies("group node 255", &[&[4, 0, 0, 1, 1, 255]], 7);
+    e.bodies("255 in two groups", &[&[4, 0, 0, 2, 1, 255, 1, 255]], 7);
     e.bodies("the last group cut", &[&[4, 0, 0, 2, 1, 0, 2, 1]], 7);
     let singles: Vec<Vec<usize>> = (0..64).map(|n| vec![n]).collect();
     let latency = Constraint::Latency { vms: vec![0], groups: singles };
@@ -499,6 +563,70 @@ fn target_constraints(e: &mut Edges) {
     edge("9 before 27", plan_bytes(&sourced(&[&[(0, 1, 2)]])), BUFFER);
 }
 
+/// A VM that ends on no node takes nothing and keeps every constraint, and drops out of a latency's
+/// list; all others are bound as ever.
+fn targets_on_no_node(e: &mut Edges) {
+    let ends = |memory, target| vm(memory, 9, NOWHERE, target);
+    let sums = |vms: &[Vm]| room_2(&[node(3, 9), node(0, 0)], vms, &[]);
+    let stays = || vm(3, 9, NOWHERE, NOWHERE);
+    e.room("no node has memory for one that stays down", &sums(&[stays(), stays()]), 0);
+    let no_steps = |e: &mut Edges, name: &str, room: &Room, number: u8| {
+        e.no_steps(name, &cluster_bytes(room), number);
+    };
+    no_steps(e, "launched where it just fits", &sums(&[stays(), ends(3, 0)]), 19);
+    no_steps(e, "launched where it does not fit", &sums(&[stays(), ends(4, 0)]), 8);
+    no_steps(e, "two launched where one fits", &sums(&[ends(2, 0), ends(2, 0)]), 8);
+    no_steps(e, "launched on a node of nothing", &sums(&[ends(1, 1)]), 8);
+    let full = [vm(3, 9, 0, NOWHERE), vm(3, 9, NOWHERE, 0)];
+    no_steps(e, "shut down where another is launched", &sums(&full), 19);
+    let heap = [vm(9, 9, 0, NOWHERE), vm(9, 9, 1, NOWHERE)];
+    no_steps(e, "an overfull start that is shut down", &sums(&heap), 19);
+
+    // VMs 0 and 1 end on no node, VM 2 on node 0.
+    let down = |list: &[Constraint]| {
+        let vms = [vm(1, 1, NOWHERE, NOWHERE), vm(1, 1, NOWHERE, NOWHERE), vm(1, 1, 0, 0)];
+        room_2(&vec![node(9, 9); 3], &vms, list)
+    };
+    e.room("banned from all nodes, down", &down(&[ban(&[0, 1], &[0, 1, 2])]), 0);
+    e.room("banned beside one on a node", &down(&[ban(&[0, 1, 2], &[0])]), 9);
+    e.room("fenced on no node, down", &down(&[fence(&[0, 1], &[])]), 0);
+    e.room("fenced on no node, one not down", &down(&[fence(&[0, 1, 2], &[])]), 9);
+    e.room("fenced with one on a node", &down(&[fence(&[0, 1, 2], &[0])]), 0);
+    e.room("fenced elsewhere, down", &down(&[fence(&[0], &[2])]), 0);
+    e.room("two mates down", &down(&[spread(&[0, 1])]), 0);
+    e.room("two mates down, one not", &down(&[spread(&[0, 1, 2])]), 0);
+    e.room("latency, all down, no group", &down(&[latency(&[0, 1], &[])]), 0);
+    e.room("latency, all down, an empty group", &down(&[latency(&[0, 1], &[&[]])]), 0);
+    e.room("latency, all down, a group", &down(&[latency(&[0], &[&[2]])]), 0);
+    e.room("latency, one not down", &down(&[latency(&[0, 1, 2], &[&[0], &[1, 2]])]), 0);
+    e.room("latency, one not down, no group", &down(&[latency(&[0, 1, 2], &[])]), 9);
+    e.room("latency, one not down, in no group", &down(&[latency(&[0, 1, 2], &[&[1, 2]])]), 9);
+    let two = |list: &[Constraint]| {
+        let vms = [vm(1, 1, NOWHERE, NOWHERE), vm(1, 1, 0, 0), vm(1, 1, 1, 1)];
+        room_2(&vec![node(9, 9); 3], &vms, list)
+    };
+    e.room("latency, one down, two in a group", &two(&[latency(&[0, 1, 2], &[&[0, 1]])]), 0);
+    e.room("latency, one down, two groups", &two(&[latency(&[0, 1, 2], &[&[0, 2], &[1]])]), 9);
+    e.room("mates apart beside one down", &two(&[spread(&[0, 1, 2])]), 0);
+
+    // Where they are at the start does not count.
+    let launched = |list: &[Constraint]| {
+        let vms = [vm(1, 1, NOWHERE, 0), vm(1, 1, NOWHERE, 0), vm(1, 1, 2, NOWHERE)];
+        room_2(&vec![node(9, 9); 3], &vms, list)
+    };
+    no_steps(e, "launched where banned", &launched(&[ban(&[0], &[0])]), 9);
+    no_steps(e, "launched out of a fence", &launched(&[fence(&[1], &[1, 2])]), 9);
+    no_steps(e, "mates launched on one node", &launched(&[spread(&[0, 1])]), 9);
+    no_steps(e, "launched into no group", &launched(&[latency(&[0, 2], &[&[1], &[2]])]), 9);
+    let kept = [
+        ban(&[0, 1, 2], &[1, 2]),
+        fence(&[0, 1, 2], &[0]),
+        spread(&[0, 2]),
+        latency(&[0, 1, 2], &[&[0]]),
+    ];
+    no_steps(e, "every kind kept, one shut down", &launched(&kept), 19);
+}
+
 // ---------------------------------------------------------------- 10
 
 fn buffers(e: &mut Edges) {
@@ -531,7 +659,8 @@ fn plans_of_no_steps(e: &mut Edges) {
         add("1 byte", good[..1].to_vec(), 1);
         add("10 bytes", good[..10].to_vec(), 1);
         add("version 0", changed(&good, |b| b[0] = 0), 2);
-        add("version 2", changed(&good, |b| b[0] = 2), 2);
+        add("version 2", changed(&good, |b| b[0] = 2), whole);
+        add("version 3", changed(&good, |b| b[0] = 3), 2);
         add("length one more", changed(&good, |b| b[4] += 1), 3);
         add("the last byte cut", changed(&good, cut), 3);
         add("65,536 bytes", restated(&good, |b| b.resize(65_536, 0)), 3);
@@ -546,6 +675,15 @@ fn plans_of_no_steps(e: &mut Edges) {
         add("memory 0", changed(&good, |b| b[vm_at..vm_at + 3].fill(0)), 6);
         add("current N", changed(&good, |b| b[vm_at + 5] = 3), 6);
         add("target N", changed(&good, |b| b[vm_at + 6] = 3), 6);
+        add("current 255", changed(&good, |b| b[vm_at + 5] = 255), 6);
+        add("target 255", changed(&good, |b| b[vm_at + 6] = 255), 6);
+        add("current 255, version 2", changed(&good, |b| (b[0], b[vm_at + 5]) = (2, 255)), 19);
+        add("target 255, version 2", changed(&good, |b| (b[0], b[vm_at + 6]) = (2, 255)), 19);
+        let stays = |b: &mut Vec<u8>| {
+            b[0] = 2;
+            b[vm_at + 5..vm_at + 7].fill(255);
+        };
+        add("both 255, version 2", changed(&good, stays), whole);
         add("a constraint of length 0", cluster_bytes_with(&room, &[vec![]]), 7);
         add("unknown kind", cluster_bytes_with(&room, &[vec![5, 0, 0]]), 7);
         let twice = vec![4, 0, 0, 2, 1, 0, 1, 0];
@@ -689,7 +827,7 @@ fn plan_versions(e: &mut Edges) {
     let list = steps(&[&[(0, 2)], &[(1, 0)], &[(0, 1)]]);
     e.plan("the cluster record as the plan", &a, cluster_bytes(&a), at(14));
     e.cluster("a plan of version 1 as the cluster", plan_bytes(&bare(&list)), 5);
-    e.cluster("a plan of version 2 as the cluster", plan_bytes(&named(&a, &list)), 2);
+    e.cluster("a plan of version 2 as the cluster", plan_bytes(&named(&a, &list)), 5);
     e.plan("version 1 read as version 2", &home, changed(&first, |b| b[0] = 2), at(14));
     e.plan("version 2 read as version 1", &home, changed(&second, |b| b[0] = 1), at(14));
     let (short, long) = (first[4], second[4]);
@@ -958,6 +1096,91 @@ fn sources_step_by_step(e: &mut Edges) {
     }
 }
 
+/// A VM down, one to be launched, one to be shut down and one at home, on roomy nodes.
+fn comings_and_goings(list: &[Constraint]) -> Room {
+    let vms =
+        [vm(1, 1, NOWHERE, NOWHERE), vm(1, 1, NOWHERE, 1), vm(1, 1, 2, NOWHERE), vm(1, 1, 0, 0)];
+    room_2(&vec![node(9, 9); 3], &vms, list)
+}
+
+/// 255 is the right source exactly for a VM on no node.
+fn sources_on_no_node(e: &mut Edges) {
+    let room = comings_and_goings(&[]);
+    let at = |number: u8, step: u16| Some((number, step));
+    let rest: &[(usize, usize, usize)] = &[(2, 2, NOWHERE)];
+    e.sourced("launched from 255", &room, &[&[(1, NOWHERE, 1)], rest], None);
+    for source in [0, 1, 2, 3, 64, 254] {
+        let name = format!("launched from {source}");
+        e.sourced(&name, &room, &[&[(1, source, 1)], rest], at(27, 1));
+    }
+    e.sourced("both, sources right", &room, &[&[(1, NOWHERE, 1), (2, 2, NOWHERE)]], None);
+    let launched: &[(usize, usize, usize)] = &[(1, NOWHERE, 1)];
+    for source in [0, 1, 3, 64, 254, NOWHERE] {
+        let name = format!("shut down from {source}");
+        e.sourced(&name, &room, &[launched, &[(2, source, NOWHERE)]], at(27, 2));
+    }
+    e.sourced("moved from 255", &room, &[&[(3, NOWHERE, 1)]], at(27, 1));
+    e.sourced("255 once it is launched", &room, &[launched, &[(1, NOWHERE, 2)]], at(27, 2));
+    let there_and_back: &[&[(usize, usize, usize)]] =
+        &[&[(0, NOWHERE, 1)], &[(0, 1, 2)], &[(0, 2, NOWHERE)], &[(0, NOWHERE, 0)]];
+    e.sourced("launched, moved, shut down, launched", &room, there_and_back, at(19, 0));
+    e.sourced("a node once it is shut down", &room, &[&[(2, 2, NOWHERE)], &[(2, 2, 1)]], at(27, 2));
+    e.sourced("down, shut down from a node", &room, &[&[(0, 1, NOWHERE)]], at(15, 1));
+    e.sourced("down, shut down from 255", &room, &[&[(0, NOWHERE, NOWHERE)]], at(15, 1));
+    e.sourced("at home, shut down from 255", &room, &[&[(3, NOWHERE, NOWHERE)]], at(15, 1));
+    e.sourced("15 before 27, a shutdown", &room, &[&[(1, 0, 1), (3, 0, NOWHERE)]], at(15, 1));
+    e.sourced("27, a shutdown beside it", &room, &[&[(1, 0, 1), (2, 2, NOWHERE)]], at(27, 1));
+    let banned = comings_and_goings(&[ban(&[1], &[2])]);
+    e.sourced("27 before 16, a launch", &banned, &[&[(1, 0, 2)]], at(27, 1));
+    e.sourced("16, a launch", &banned, &[&[(1, NOWHERE, 2)]], at(16, 1));
+}
+
+// ---------------------------------------------------------------- 15, shutdowns
+
+/// Destination 255 is for a VM that should end there and is not there, in either plan version.
+fn shutdown_names(e: &mut Edges) {
+    let home = at_home();
+    let at = |step: u16| Some((15, step));
+    e.steps("version 1, shut down", &home, &[&[(0, NOWHERE)]], at(1));
+    e.steps("version 1, shut down in step 2", &home, &[&[(0, 2)], &[(0, NOWHERE)]], at(2));
+    let two = Room { version: Version::Two, ..at_home() };
+    e.steps("version 2, nobody is to be shut down", &two, &[&[(0, NOWHERE)]], at(1));
+    let room = comings_and_goings(&[]);
+    let done: &[(usize, usize)] = &[(1, 1), (2, NOWHERE)];
+    e.steps("launched and shut down", &room, &[done], None);
+    e.steps("one that is down already", &room, &[&[(0, NOWHERE)], done], at(1));
+    e.steps("one that is to be launched", &room, &[&[(1, NOWHERE)]], at(1));
+    e.steps("one that was launched", &room, &[&[(1, 1)], &[(1, NOWHERE)]], at(2));
+    e.steps("one that is at home", &room, &[&[(3, NOWHERE)]], at(1));
+    e.steps("the last move of a step", &room, &[&[(1, 1), (2, NOWHERE), (3, NOWHERE)]], at(1));
+    e.steps("twice", &room, &[done, &[(2, NOWHERE)]], at(2));
+    e.steps("moved first, then shut down", &room, &[&[(2, 0)], &[(1, 1), (2, NOWHERE)]], None);
+    e.steps("shut down, launched, shut down", &room, &[done, &[(2, 0)], &[(2, NOWHERE)]], None);
+    let guest: &[&[(usize, usize)]] =
+        &[&[(0, 2)], &[(0, 1)], &[(0, NOWHERE), (1, 1), (2, NOWHERE)]];
+    e.steps("launched though it stays down, and shut down", &room, guest, None);
+    e.steps("launched though it stays down", &room, &[&[(0, 2)], done], Some((19, 0)));
+    e.steps("launched elsewhere, then home", &room, &[&[(1, 2)], done], None);
+    e.steps("launched elsewhere", &room, &[&[(1, 2), (2, NOWHERE)]], Some((19, 0)));
+    for to in [3, 63, 64, 254] {
+        e.steps(&format!("a VM to be shut down to {to}"), &room, &[&[(2, to)]], at(1));
+        e.steps(&format!("a launch to {to}"), &room, &[&[(1, to)]], at(1));
+    }
+    e.steps("an unknown VM shut down", &room, &[&[(4, NOWHERE)]], at(1));
+    e.steps("VM 255 shut down", &room, &[&[(255, NOWHERE)]], at(1));
+    e.steps("shut down twice in a step", &room, &[&[(2, NOWHERE), (2, NOWHERE)]], at(1));
+    e.steps("shutdowns fall", &room, &[&[(2, NOWHERE), (1, 1)]], at(1));
+    let wide = room_2(&vec![node(9, 9); 64], &[vm(1, 1, 63, NOWHERE)], &[]);
+    e.steps("shut down on node 63", &wide, &[&[(0, NOWHERE)]], None);
+    e.steps("to node 64 of 64", &wide, &[&[(0, 64)]], at(1));
+    let all = room_2(&[node(300, 300)], &vec![vm(1, 1, 0, NOWHERE); 256], &[]);
+    let every: Vec<(usize, usize)> = (0..256).map(|vm| (vm, NOWHERE)).collect();
+    e.steps("256 shut down at once", &all, &[&every], None);
+    let all = room_2(&[node(300, 300)], &vec![vm(1, 1, NOWHERE, 0); 256], &[]);
+    let every: Vec<(usize, usize)> = (0..256).map(|vm| (vm, 0)).collect();
+    e.steps("256 launched at once", &all, &[&every], None);
+}
+
 // ---------------------------------------------------------------- 16
 
 fn closed_nodes(e: &mut Edges) {
@@ -986,6 +1209,24 @@ fn closed_nodes(e: &mut Edges) {
     e.steps("16 before 17", &tight, &[&[(0, 1), (1, 2)]], at(16, 1));
     e.steps("17 before 18", &tight, &[&[(0, 1)]], at(17, 1));
     e.steps("16 in step 2", &tight, &[&[(0, 2)], &[(1, 2)]], at(16, 2));
+
+    let goings = |list: &[Constraint]| comings_and_goings(list);
+    let done: &[(usize, usize)] = &[(1, 1), (2, NOWHERE)];
+    let fenced = goings(&[fence(&[2], &[2])]);
+    e.steps("shut down out of a fence", &fenced, &[done], None);
+    e.steps("out of a fence to a node first", &fenced, &[&[(2, 0)], done], at(16, 1));
+    e.steps("shut down, fenced on no node", &goings(&[fence(&[2], &[])]), &[done], None);
+    let banned = goings(&[ban(&[0, 1, 2], &[2]), fence(&[1, 2], &[0, 1])]);
+    e.steps("shut down on a banned node", &banned, &[done], None);
+    e.steps("launched on an open node", &banned, &[&[(0, 0)], &[(0, NOWHERE)], done], None);
+    e.steps("launched on a banned node", &banned, &[&[(0, 2)], &[(0, NOWHERE)], done], at(16, 1));
+    e.steps("launched on a banned node on the way", &banned, &[&[(1, 2)], done], at(16, 1));
+    let fenced = goings(&[fence(&[0, 1], &[1])]);
+    e.steps("launched out of a fence", &fenced, &[&[(1, 0)], done], at(16, 1));
+    e.steps("launched out of a fence, stays down", &fenced, &[&[(0, 0)]], at(16, 1));
+    e.steps("15 before 16, a shutdown", &fenced, &[&[(1, 0), (3, NOWHERE)]], at(15, 1));
+    let grouped = goings(&[latency(&[0, 1, 2], &[&[1], &[0, 2]])]);
+    e.steps("launched out of a group on the way", &grouped, &[&[(0, 2), (1, 0)]], at(19, 0));
 }
 
 // ---------------------------------------------------------------- 17
@@ -1056,6 +1297,95 @@ fn fits(e: &mut Edges) {
     e.steps("17 at a later destination", &onto(4, 9), &[&[(1, 0)], &[(0, 1), (1, 1)]], at(2));
 }
 
+/// A launch counts on its destination from its begin on, a shutdown on its source until it ends.
+fn launches_and_shutdowns_fit(e: &mut Edges) {
+    let at = |step: u16| Some((17, step));
+    let one = |memory, cpu| {
+        let vms = [vm(3, 4, 0, NOWHERE), vm(2, 3, NOWHERE, 0)];
+        room_2(&[node(memory, cpu), node(9, 9)], &vms, &[])
+    };
+    let (off, on) = ([(0, NOWHERE)], [(1, 0)]);
+    let both: &[(usize, usize)] = &[(0, NOWHERE), (1, 0)];
+    e.steps("a shutdown, then a launch", &one(3, 4), &[&off, &on], None);
+    e.steps("a launch, then a shutdown", &one(4, 9), &[&on, &off], at(1));
+    e.steps("a shutdown does not pay, memory", &one(4, 9), &[both], at(1));
+    e.steps("a shutdown does not pay, CPU", &one(9, 6), &[both], at(1));
+    e.steps("room for both", &one(5, 7), &[both], None);
+    e.steps("a launch beside what is shut down later", &one(5, 7), &[&on, &off], None);
+    e.steps("launched elsewhere first", &one(3, 4), &[&[(1, 1)], &off, &on], None);
+    e.steps("launched elsewhere in one step", &one(3, 4), &[&[(0, NOWHERE), (1, 1)], &on], None);
+    let two = |memory, cpu| {
+        let vms = [vm(2, 2, NOWHERE, 1), vm(2, 2, NOWHERE, 0), vm(2, 2, 1, 0)];
+        room_2(&[node(memory, cpu), node(4, 4)], &vms, &[])
+    };
+    e.steps("a launch and a move, just fit", &two(4, 4), &[&[(0, 1), (1, 0), (2, 0)]], None);
+    let less =
+        room_2(&[node(9, 9), node(3, 9)], &[vm(2, 1, NOWHERE, 0), vm(2, 1, NOWHERE, 0)], &[]);
+    e.steps("two launches that fit alone", &less, &[&[(0, 1), (1, 1)]], at(1));
+    e.steps("one launch there", &less, &[&[(0, 1), (1, 0)], &[(0, 0)]], None);
+    e.steps("the second launch later", &less, &[&[(0, 1)], &[(1, 1)]], at(2));
+    let chain = room_2(&[node(2, 9), node(2, 9)], &[vm(2, 1, 0, 1), vm(2, 1, NOWHERE, 0)], &[]);
+    e.steps("a launch behind a move", &chain, &[&[(0, 1)], &[(1, 0)]], None);
+    e.steps("a departure does not pay for a launch", &chain, &[&[(0, 1), (1, 0)]], at(1));
+    let after = room_2(&[node(2, 9), node(2, 9)], &[vm(2, 1, 0, NOWHERE), vm(2, 1, 1, 0)], &[]);
+    e.steps("a move behind a shutdown", &after, &[&[(0, NOWHERE)], &[(1, 0)]], None);
+    e.steps("a shutdown does not pay for a move", &after, &[&[(0, NOWHERE), (1, 0)]], at(1));
+    // Node 0 starts over its memory.
+    let heap = room_2(
+        &[node(3, 9), node(9, 9)],
+        &[vm(2, 1, 0, NOWHERE), vm(2, 1, 0, 0), vm(1, 1, NOWHERE, 0)],
+        &[],
+    );
+    e.steps("shut down on an overfull node", &heap, &[&[(0, NOWHERE)], &[(2, 0)]], None);
+    e.steps("launched on an overfull node", &heap, &[&[(2, 0)], &[(0, NOWHERE)]], at(1));
+    e.steps("both there", &heap, &[&[(0, NOWHERE), (2, 0)]], at(1));
+    let idle = room_2(&[node(9, 1)], &[vm(1, 2, 0, NOWHERE), vm(1, 0, NOWHERE, 0)], &[]);
+    e.steps("CPU 0 launched on a node over its CPU", &idle, &[&[(1, 0)], &[(0, NOWHERE)]], at(1));
+    e.steps("once it is within", &idle, &[&[(0, NOWHERE)], &[(1, 0)]], None);
+    let large = vm(16_777_215, 65_535, NOWHERE, NOWHERE);
+    let guest = room_2(&[node(16_777_215, 65_535), node(1, 1)], &[large, vm(1, 1, 1, 1)], &[]);
+    e.steps("the largest launched and shut down", &guest, &[&[(0, 0)], &[(0, NOWHERE)]], None);
+    e.steps("the largest where it does not fit", &guest, &[&[(0, 1)], &[(0, NOWHERE)]], at(1));
+}
+
+/// On no node nobody meets a mate; a launch may meet one, and one that is being shut down is met.
+fn launches_and_shutdowns_meet(e: &mut Edges) {
+    let at = |step: u16| Some((18, step));
+    let nodes = vec![node(9, 9); 3];
+    let with = |vms: &[Vm], mates: &[usize]| room_2(&nodes, vms, &[spread(mates)]);
+    let turn = with(&[vm(1, 1, 0, NOWHERE), vm(1, 1, NOWHERE, 0)], &[0, 1]);
+    let (off, on) = ([(0, NOWHERE)], [(1, 0)]);
+    e.steps("a mate shut down, then a launch", &turn, &[&off, &on], None);
+    e.steps("a mate still being shut down", &turn, &[&[(0, NOWHERE), (1, 0)]], at(1));
+    e.steps("launched where a mate is", &turn, &[&on, &off], at(1));
+    e.steps("launched elsewhere beside it", &turn, &[&[(0, NOWHERE), (1, 1)], &on], None);
+    let down = with(&[vm(1, 1, 0, NOWHERE), vm(1, 1, 1, NOWHERE)], &[0, 1]);
+    e.steps("two mates shut down at once", &down, &[&[(0, NOWHERE), (1, NOWHERE)]], None);
+    e.steps("one after the other", &down, &[&[(0, NOWHERE)], &[(1, NOWHERE)]], None);
+    e.steps("to the mate's node first", &down, &[&[(0, 1)]], at(1));
+    let near = with(&[vm(1, 1, 0, NOWHERE), vm(1, 1, 0, NOWHERE)], &[0, 1]);
+    e.steps("mates on one node shut down", &near, &[&[(0, NOWHERE), (1, NOWHERE)]], None);
+    let up = with(&[vm(1, 1, NOWHERE, 0), vm(1, 1, NOWHERE, 1)], &[0, 1]);
+    e.steps("two mates launched apart", &up, &[&[(0, 0), (1, 1)]], None);
+    e.steps("two mates launched together", &up, &[&[(0, 2), (1, 2)]], at(1));
+    e.steps("one after the other, together", &up, &[&[(0, 2)], &[(1, 2)]], at(2));
+    let stays = with(&[vm(1, 1, NOWHERE, NOWHERE), vm(1, 1, 1, 2)], &[0, 1]);
+    e.steps("a mate that stays down", &stays, &[&[(1, 2)]], None);
+    e.steps("a mate launched where one starts", &stays, &[&[(0, 1), (1, 2)]], at(1));
+    let go = &[&[(0, 1)][..], &[(0, NOWHERE), (1, 2)]];
+    e.steps("a mate launched there before", &stays, go, at(1));
+    let trio =
+        with(&[vm(1, 1, NOWHERE, NOWHERE), vm(1, 1, NOWHERE, 1), vm(1, 1, 1, NOWHERE)], &[0, 1, 2]);
+    e.steps("three mates, one stays down", &trio, &[&[(2, NOWHERE)], &[(1, 1)]], None);
+    e.steps("three mates, a launch at once", &trio, &[&[(1, 1), (2, NOWHERE)]], at(1));
+    let tight = room_2(
+        &[node(1, 1), node(9, 9)],
+        &[vm(1, 1, 0, NOWHERE), vm(1, 1, NOWHERE, 0)],
+        &[spread(&[0, 1])],
+    );
+    e.steps("17 before 18, a launch", &tight, &[&[(0, NOWHERE), (1, 0)]], Some((17, 1)));
+}
+
 // ---------------------------------------------------------------- 18 and 19
 
 fn spreads(e: &mut Edges) {
@@ -1094,4 +1424,50 @@ fn ends(e: &mut Edges) {
     let home = at_home();
     e.steps("home already", &home, &[], None);
     e.steps("home, and one sent away", &home, &[&[(0, 2)]], at);
+}
+
+/// A VM must end where it should: on its node, or on none.
+fn ends_on_no_node(e: &mut Edges) {
+    let room = comings_and_goings(&[]);
+    let at = Some((19, 0));
+    e.steps("nobody launched or shut down", &room, &[], at);
+    e.steps("one still to be launched", &room, &[&[(2, NOWHERE)]], at);
+    e.steps("one still to be shut down", &room, &[&[(1, 1)]], at);
+    e.steps("launched on another node", &room, &[&[(1, 0), (2, NOWHERE)]], at);
+    e.steps("moved and not shut down", &room, &[&[(1, 1), (2, 0)]], at);
+    e.steps("the home of another", &room, &[&[(1, 1), (2, NOWHERE), (3, 1)]], at);
+    let down = room_2(&[node(1, 1)], &[vm(9, 9, NOWHERE, NOWHERE)], &[]);
+    e.steps("down all the time", &down, &[], None);
+    let many =
+        |current, target| room_2(&[node(300, 300)], &vec![vm(1, 1, current, target); 256], &[]);
+    let all_but_last = |to: usize| (0..255).map(|vm| (vm, to)).collect::<Vec<_>>();
+    e.steps("all shut down but the last", &many(0, NOWHERE), &[&all_but_last(NOWHERE)], at);
+    e.steps("all launched but the last", &many(NOWHERE, 0), &[&all_but_last(0)], at);
+}
+
+/// Rooms in which a launch or a shutdown tells how the planner goes on.
+fn launches_and_shutdowns_planned(e: &mut Edges) {
+    let mut add = |name: &str, room: &Room| e.no_steps(name, &cluster_bytes(room), 19);
+    let one =
+        |memory| room_2(&[node(memory, 9)], &[vm(3, 1, 0, NOWHERE), vm(2, 1, NOWHERE, 0)], &[]);
+    add("a launch that waits for a shutdown", &one(4));
+    add("a launch that need not wait", &one(5));
+    let mates = Room { constraints: vec![spread(&[0, 1])], ..one(9) };
+    add("a launch that waits for a mate", &mates);
+    let aside = [
+        vm(2, 1, 0, 1),
+        vm(3, 1, 0, 1),
+        vm(1, 1, NOWHERE, 0),
+        vm(4, 1, 1, 0),
+        vm(9, 1, NOWHERE, NOWHERE),
+    ];
+    add("a pivot that lets one be launched", &room_2(&vec![node(5, 9); 3], &aside, &[]));
+    let stuck = [vm(3, 1, 0, 1), vm(2, 1, 1, 0), vm(2, 1, NOWHERE, 0), vm(1, 1, 1, NOWHERE)];
+    add("blocked after a shutdown", &room_2(&vec![node(4, 9); 2], &stuck, &[]));
+    let banned =
+        Room { constraints: vec![ban(&[0], &[2])], ..room_2(&vec![node(5, 9); 3], &aside, &[]) };
+    add("a pivot that is banned, beside a launch", &banned);
+    let fenced = [vm(2, 1, 0, NOWHERE), vm(2, 1, 1, 0), vm(2, 1, NOWHERE, 1)];
+    let fences = [fence(&[0], &[0]), fence(&[2], &[1])];
+    add("a shutdown, a move and a launch in turn", &room_2(&vec![node(2, 9); 2], &fenced, &fences));
 }

@@ -3,8 +3,8 @@
 
 use crate::planner::{make_steps, make_steps_from, BUFFER};
 use crate::records::{
-    cluster_bytes_with, constraint_body, plan_bytes, state_length, Constraint, Move, Node, Plan,
-    Room, Step, Vm, CLUSTER_HEADER, NODE_ROW, PLAN_HEADER, VM_ROW,
+    cluster_bytes_with, constraint_body, on_a_node, plan_bytes, state_length, Constraint, Move,
+    Node, Plan, Room, Step, Version, Vm, CLUSTER_HEADER, NODE_ROW, NOWHERE, PLAN_HEADER, VM_ROW,
 };
 use crate::rules::{mates, may_go, step_fault, Book, Placement, Sum};
 use crate::sources::{bare, named};
@@ -77,11 +77,45 @@ pub enum Size {
 pub fn room(rng: &mut Rng, size: Size) -> Room {
     let (n, v) = counts(rng, size);
     let vms = vms_on_target(rng, n, v);
-    let mut room = Room { nodes: vec![Node { memory: 0, cpu: 0 }; n], vms, constraints: vec![] };
+    let mut room = unsized_room(n, vms);
     scatter(rng, &mut room);
+    some_down(rng, &mut room);
     size_nodes(rng, &mut room);
     room.constraints = constraints(rng, &room, size);
     room
+}
+
+/// A room of version 1 with nodes that have nothing to give.
+pub(crate) fn unsized_room(n: usize, vms: Vec<Vm>) -> Room {
+    let nodes = vec![Node { memory: 0, cpu: 0 }; n];
+    Room { version: Version::One, nodes, vms, constraints: vec![] }
+}
+
+/// Makes a room one of version 2 at times, in which some VMs are to be launched or shut down or are
+/// on no node all the time; in a few of them nobody is.
+pub(crate) fn some_down(rng: &mut Rng, room: &mut Room) {
+    if rng.chance(50) {
+        return;
+    }
+    room.version = Version::Two;
+    let percent = rng.pick(&[0, 10, 25, 25, 50, 80]);
+    for vm in &mut room.vms {
+        if rng.chance(percent) {
+            match rng.below(5) {
+                0 | 1 => vm.current = NOWHERE,
+                2 | 3 => vm.target = NOWHERE,
+                _ => stay_down(rng, vm),
+            }
+        }
+    }
+}
+
+/// Puts a VM on no node for good, at times one that no node could hold.
+fn stay_down(rng: &mut Rng, vm: &mut Vm) {
+    (vm.current, vm.target) = (NOWHERE, NOWHERE);
+    if rng.chance(20) {
+        (vm.memory, vm.cpu) = (MOST_MEMORY, MOST_CPU);
+    }
 }
 
 fn counts(rng: &mut Rng, size: Size) -> (usize, usize) {
@@ -252,11 +286,14 @@ fn spread(rng: &mut Rng, room: &Room) -> Constraint {
     spread_among(rng, room, candidates)
 }
 
-/// A spread over as many of these VMs as have targets apart.
+/// A spread over as many of these VMs as have targets apart, or none.
 pub(crate) fn spread_among(rng: &mut Rng, room: &Room, mut candidates: Vec<usize>) -> Constraint {
     rng.shuffle(&mut candidates);
     let mut used = vec![false; room.nodes.len()];
-    candidates.retain(|&vm| !std::mem::replace(&mut used[room.vms[vm].target], true));
+    candidates.retain(|&vm| {
+        let target = room.vms[vm].target;
+        !on_a_node(target) || !std::mem::replace(&mut used[target], true)
+    });
     candidates.truncate(rng.range(2, 64));
     candidates.sort();
     Constraint::Spread { vms: candidates }
@@ -271,12 +308,10 @@ pub(crate) fn latency(rng: &mut Rng, room: &Room) -> Constraint {
             groups[rng.below(how_many)].push(node);
         }
     }
-    if groups.is_empty() {
-        return Constraint::Latency { vms: vec![], groups };
-    }
-    let chosen: Vec<usize> = rng.pick(&groups);
-    let vms = some_vms(rng, room);
-    let vms = vms.into_iter().filter(|&vm| chosen.contains(&room.vms[vm].target)).collect();
+    let chosen = if groups.is_empty() { vec![] } else { rng.pick(&groups) };
+    let fits = |target: usize| chosen.contains(&target) || !on_a_node(target);
+    let mut vms = some_vms(rng, room);
+    vms.retain(|&vm| fits(room.vms[vm].target));
     Constraint::Latency { vms, groups }
 }
 
@@ -294,12 +329,13 @@ pub fn knot(rng: &mut Rng, size: Size) -> Room {
         Vm { memory, cpu, current: target, target }
     };
     let vms: Vec<Vm> = places.iter().map(|&target| vm(rng, target)).collect();
-    let mut room = Room { nodes: vec![Node { memory: 0, cpu: 0 }; n], vms, constraints: vec![] };
+    let mut room = unsized_room(n, vms);
     rng.shuffle(&mut places);
     let stay = rng.pick(&[0, 0, 20, 50]);
     for (vm, &place) in room.vms.iter_mut().zip(&places) {
         vm.current = if rng.chance(stay) { vm.target } else { place };
     }
+    some_down(rng, &mut room);
     let (start, end) = (Placement::current(&room).sums, Placement::target(&room).sums);
     let free = rng.pick(&[1, 1, 2, largest]);
     let roomy_cpu = rng.chance(70);
@@ -348,7 +384,7 @@ pub fn swaps(pairs: usize) -> Room {
     let mut nodes = vec![full; 3];
     nodes[spare] = Node { memory: 1, cpu: 1 };
     let vms = (0..2 * pairs).map(|i| if i < pairs { forth.clone() } else { back.clone() });
-    Room { nodes, vms: vms.collect(), constraints: vec![] }
+    Room { version: Version::One, nodes, vms: vms.collect(), constraints: vec![] }
 }
 
 /// A ring: every node but the last is full, and each VM's target is the next node. One pivot
@@ -357,10 +393,41 @@ pub fn ring(rng: &mut Rng, n: usize) -> Room {
     let memory = rng.range(1, 100) as u64;
     let vm = |i: usize| Vm { memory, cpu: 10, current: i, target: (i + 1) % (n - 1) };
     Room {
+        version: Version::One,
         nodes: vec![Node { memory, cpu: 10 }; n],
         vms: (0..n - 1).map(vm).collect(),
         constraints: vec![],
     }
+}
+
+/// A relay: every node is full, each VM's target is the next node, that of the last is none, and
+/// one is to be launched on the first. The shutdown comes first, the rest follow one by one, and
+/// the launch comes last.
+pub fn relay(rng: &mut Rng, n: usize) -> Room {
+    let memory = rng.range(1, 100) as u64;
+    let place = |i: usize| if i < n { i } else { NOWHERE };
+    let vm = |i: usize| Vm { memory, cpu: 10, current: place(i), target: place(i + 1) };
+    let launched = Vm { memory, cpu: 10, current: NOWHERE, target: 0 };
+    let mut vms: Vec<Vm> = (0..n).map(vm).chain([launched]).collect();
+    rng.shuffle(&mut vms);
+    let nodes = vec![Node { memory, cpu: 10 }; n];
+    Room { version: Version::Two, nodes, vms, constraints: vec![] }
+}
+
+/// Two VMs of a node are to change places with one of another node that needs both their places,
+/// and so many small ones are to be launched beside it. One that steps aside lets one be launched.
+pub fn launches_after_pivots(rng: &mut Rng, launches: usize) -> Room {
+    let (left, right) = (0, 1);
+    let vm = |memory, current, target| Vm { memory, cpu: 1, current, target };
+    let mut vms = vec![vm(2, left, right), vm(3, left, right), vm(4, right, left)];
+    vms.extend(vec![vm(1, NOWHERE, left); launches]);
+    if rng.chance(50) {
+        rng.shuffle(&mut vms);
+    }
+    let held = 4 + launches as u64;
+    let room = |memory: u64| Node { memory, cpu: 99 };
+    let nodes = vec![room(held.max(5)), room(5), room(5)];
+    Room { version: Version::Two, nodes, vms, constraints: vec![] }
 }
 
 // ---------------------------------------------------------------- plans
@@ -444,15 +511,15 @@ fn spoilt_plan(rng: &mut Rng, room: &Room, steps: &[Step]) -> (Plan, Origin) {
     }
 }
 
-/// Gives one move another source: the record's node, the destination, a node that some move goes
-/// to, any node, or a number that no node has.
+/// Gives one move another source: the record's place, the destination, where some move goes to, any
+/// node, nowhere, or a number that no node has.
 pub fn one_wrong(rng: &mut Rng, room: &Room, mut plan: Plan) -> Plan {
     let n = room.nodes.len();
     let goes_to: Vec<usize> = plan.steps.iter().flatten().map(|m| m.to).collect();
     on_a_move(rng, &mut plan.steps, |rng, m| {
         let current = room.vms.get(m.vm).map_or(0, |vm| vm.current);
         let (other, any) = (rng.pick(&goes_to), rng.below(n));
-        let source = rng.pick(&[current, current, m.to, other, any, n, 64, 255]);
+        let source = rng.pick(&[current, current, m.to, other, any, any, n, 64, NOWHERE, NOWHERE]);
         // A source that was right is not drawn again.
         m.from = Some(if m.from == Some(source) { (source + 1) % (n + 1) } else { source });
     });
@@ -484,13 +551,14 @@ pub fn other_file(rng: &mut Rng, room: &Room) -> Plan {
     either(rng, &other, &make_steps(&other).0)
 }
 
-/// The same cluster with some VMs on other nodes.
+/// The same cluster with some VMs at other places.
 fn elsewhere(rng: &mut Rng, room: &Room) -> Room {
     let mut other = room.clone();
     let percent = rng.pick(&[10, 30, 100]);
+    let down = if room.version == Version::Two { 20 } else { 0 };
     for vm in &mut other.vms {
         if rng.chance(percent) {
-            vm.current = rng.below(room.nodes.len());
+            vm.current = if rng.chance(down) { NOWHERE } else { rng.below(room.nodes.len()) };
         }
     }
     other
@@ -527,6 +595,15 @@ fn stretch(rng: &mut Rng, room: &Room, steps: &mut Vec<Step>) {
     }
 }
 
+/// A place to send a VM to: any node, or at times nowhere if it should end there.
+pub fn some_place(rng: &mut Rng, room: &Room, vm: usize) -> usize {
+    let may_end = room.vms.get(vm).is_some_and(|row| !on_a_node(row.target));
+    if may_end && rng.chance(40) {
+        return NOWHERE;
+    }
+    rng.below(room.nodes.len())
+}
+
 /// Goes through the VMs and keeps each random move that leaves the step sound.
 fn random_sound_step(
     rng: &mut Rng,
@@ -538,7 +615,7 @@ fn random_sound_step(
     let mut step = Vec::new();
     for vm in 0..room.vms.len() {
         if rng.chance(percent) {
-            step.push(Move::bare(vm, rng.below(room.nodes.len())));
+            step.push(Move::bare(vm, some_place(rng, room, vm)));
             if step_fault(room, book, here, &step).is_some() {
                 step.pop();
             }
@@ -564,7 +641,7 @@ fn detour(rng: &mut Rng, room: &Room) -> Vec<Step> {
     steps
 }
 
-/// VMs that rise and destinations that exist, drawn with no eye on the rules.
+/// VMs that rise and destinations that exist or are nowhere, drawn with no eye on the rules.
 fn blind_step(rng: &mut Rng, room: &Room) -> Step {
     let n = room.nodes.len();
     let mut vms = some_vms(rng, room);
@@ -572,6 +649,8 @@ fn blind_step(rng: &mut Rng, room: &Room) -> Step {
         vms.push(rng.below(room.vms.len() + 1));
     }
     let away = |rng: &mut Rng, vm: usize| match room.vms.get(vm) {
+        Some(row) if !on_a_node(row.target) && rng.chance(40) => NOWHERE,
+        _ if rng.chance(1) => NOWHERE,
         Some(row) if n > 1 && rng.chance(95) => (row.current + rng.range(1, n - 1)) % n,
         _ => rng.below(n),
     };
@@ -580,7 +659,7 @@ fn blind_step(rng: &mut Rng, room: &Room) -> Step {
 
 /// Changes a plan in one place. Steps left empty go, as they would only be fault 14.
 pub fn spoil(rng: &mut Rng, room: &Room, steps: &mut Vec<Step>) {
-    match rng.below(24) {
+    match rng.below(29) {
         0 | 1 => swap_moves(rng, steps),
         2..=4 => merge_steps(rng, steps),
         5 | 6 => split_step(rng, steps),
@@ -588,16 +667,19 @@ pub fn spoil(rng: &mut Rng, room: &Room, steps: &mut Vec<Step>) {
             step.remove(rng.below(step.len()));
         }),
         8 | 9 => extra_move(rng, room, steps),
-        10 => on_a_move(rng, steps, |rng, m| m.to = rng.below(room.nodes.len())),
+        10 => on_a_move(rng, steps, |rng, m| m.to = some_place(rng, room, m.vm)),
         11 => swap_steps(rng, steps),
         12 => repeat_step(rng, steps),
         13 => on_a_step(rng, steps, |_, step| step.reverse()),
         14 => on_a_move(rng, steps, |rng, m| m.vm = rng.pick(&[room.vms.len(), 255, 0])),
-        15 => on_a_move(rng, steps, |rng, m| m.to = rng.pick(&[room.nodes.len(), 64, 255])),
+        15 => on_a_move(rng, steps, |rng, m| m.to = rng.pick(&[room.nodes.len(), 64, 254])),
         16 => on_a_move(rng, steps, |_, m| m.to = room.vms.get(m.vm).map_or(0, |vm| vm.current)),
         17 | 18 => to_a_closed_node(rng, room, steps),
         19..=21 => to_a_mate(rng, room, steps),
         22 => crowd(rng, room, steps),
+        23 => on_a_move(rng, steps, |_, m| m.to = NOWHERE),
+        24 | 25 => shut_down(rng, room, steps),
+        26 | 27 => hurry(rng, room, steps),
         _ => {
             steps.pop();
         }
@@ -682,40 +764,108 @@ fn add_move(rng: &mut Rng, steps: &mut Vec<Step>, m: Move) {
 
 fn extra_move(rng: &mut Rng, room: &Room, steps: &mut Vec<Step>) {
     if !room.vms.is_empty() {
-        let m = Move::bare(rng.below(room.vms.len()), rng.below(room.nodes.len()));
+        let vm = rng.below(room.vms.len());
+        let m = Move::bare(vm, some_place(rng, room, vm));
         add_move(rng, steps, m);
     }
+}
+
+/// Shuts a VM down, most often one that should end so, wherever it is by then.
+fn shut_down(rng: &mut Rng, room: &Room, steps: &mut Vec<Step>) {
+    let all = 0..room.vms.len();
+    let ends: Vec<usize> = all.clone().filter(|&vm| !on_a_node(room.vms[vm].target)).collect();
+    if ends.is_empty() && rng.chance(70) {
+        return extra_move(rng, room, steps);
+    }
+    let from = if ends.is_empty() || rng.chance(20) { all.collect() } else { ends };
+    if !from.is_empty() {
+        let m = Move::bare(rng.pick(&from), NOWHERE);
+        add_move(rng, steps, m);
+    }
+}
+
+/// Brings a launch forward into an earlier step, most often one that shuts down a VM.
+fn hurry(rng: &mut Rng, room: &Room, steps: &mut [Step]) {
+    let launches = |m: &Move| room.vms.get(m.vm).is_some_and(|vm| !on_a_node(vm.current));
+    let Some(last) = steps.iter().rposition(|step| step.iter().any(launches)) else { return };
+    let shuts_down = |step: &Step| step.iter().any(|m| !on_a_node(m.to));
+    let earlier: Vec<usize> = (0..last).filter(|&i| shuts_down(&steps[i])).collect();
+    let first = match earlier.last() {
+        Some(&i) if rng.chance(80) => i,
+        _ => rng.below(last + 1),
+    };
+    let at = steps[last].iter().position(launches);
+    let launch = at.map(|at| steps[last].remove(at));
+    launch.into_iter().for_each(|m| insert(&mut steps[first], m));
 }
 
 /// Sends a VM to a node that a ban or fence closes to it.
 fn to_a_closed_node(rng: &mut Rng, room: &Room, steps: &mut Vec<Step>) {
     let mut vms: Vec<usize> = (0..room.vms.len()).collect();
     rng.shuffle(&mut vms);
+    if rng.chance(30) {
+        down_first(room, &mut vms);
+    }
     for vm in vms {
         let closed: Vec<usize> =
             (0..room.nodes.len()).filter(|&node| !may_go(room, vm, node)).collect();
         if !closed.is_empty() {
             let m = Move::bare(vm, rng.pick(&closed));
-            return add_move(rng, steps, m);
-        }
-    }
-}
-
-/// Sends a VM to where a spread mate starts or should end.
-fn to_a_mate(rng: &mut Rng, room: &Room, steps: &mut Vec<Step>) {
-    let mut vms: Vec<usize> = (0..room.vms.len()).collect();
-    rng.shuffle(&mut vms);
-    for vm in vms {
-        let mates = mates(room, vm);
-        if !mates.is_empty() {
-            let mate = &room.vms[rng.pick(&mates)];
-            let m = Move::bare(vm, rng.pick(&[mate.current, mate.target]));
             if rng.chance(50) {
                 return steps.insert(0, vec![m]);
             }
             return add_move(rng, steps, m);
         }
     }
+}
+
+/// Puts VMs that start on no node in front.
+fn down_first(room: &Room, vms: &mut [usize]) {
+    vms.sort_by_key(|&vm| on_a_node(room.vms[vm].current));
+}
+
+/// Sends a VM to where a spread mate starts or should end, at times together with a mate.
+fn to_a_mate(rng: &mut Rng, room: &Room, steps: &mut Vec<Step>) {
+    let mut vms: Vec<usize> = (0..room.vms.len()).collect();
+    rng.shuffle(&mut vms);
+    if rng.chance(30) {
+        down_first(room, &mut vms);
+    }
+    for vm in vms {
+        let mates = mates(room, vm);
+        if mates.is_empty() {
+            continue;
+        }
+        if let Some(step) = with_a_mate(rng, room, vm, &mates) {
+            return steps.insert(0, step);
+        }
+        let mate = &room.vms[rng.pick(&mates)];
+        let m = Move::bare(vm, rng.pick(&[mate.current, mate.target]));
+        if rng.chance(50) {
+            return steps.insert(0, vec![m]);
+        }
+        return add_move(rng, steps, m);
+    }
+}
+
+/// At times a step that sends a VM to where a mate is shut down, or both to one node, most often if
+/// both start on none.
+fn with_a_mate(rng: &mut Rng, room: &Room, vm: usize, mates: &[usize]) -> Option<Step> {
+    let starts_down = |vm: usize| !on_a_node(room.vms[vm].current);
+    let ends_down = |vm: usize| !starts_down(vm) && !on_a_node(room.vms[vm].target);
+    let leaver = mates.iter().copied().find(|&mate| ends_down(mate));
+    let (mate, of_mate, to) = if let Some(mate) = leaver.filter(|_| rng.chance(40)) {
+        (mate, NOWHERE, room.vms[mate].current)
+    } else if rng.chance(if starts_down(vm) { 70 } else { 20 }) {
+        let mate = mates.iter().copied().find(|&mate| starts_down(mate)).unwrap_or(mates[0]);
+        let to = rng.below(room.nodes.len());
+        (mate, to, to)
+    } else {
+        return None;
+    };
+    let mut step = vec![Move::bare(vm, to)];
+    insert(&mut step, Move::bare(mate, of_mate));
+    Some(step)
 }
 
 /// Sends a few more VMs of the first step to one node.
@@ -733,7 +883,8 @@ fn crowd(rng: &mut Rng, room: &Room, steps: &mut [Step]) {
 
 // ---------------------------------------------------------------- damage to records
 
-/// Damages the rows or the target: faults 6, 8 and 9.
+/// Damages the rows or the target: faults 6, 8 and 9. Where the VM is on no node, or should end
+/// there, some of it is no damage.
 pub fn damage_room(rng: &mut Rng, room: &mut Room) {
     let n = room.nodes.len();
     if room.vms.is_empty() {
@@ -741,17 +892,20 @@ pub fn damage_room(rng: &mut Rng, room: &mut Room) {
     }
     let i = rng.below(room.vms.len());
     let target = room.vms[i].target;
-    let held = Placement::target(room).sums[target];
-    match rng.below(10) {
+    let held = Placement::target(room).sums.get(target).copied();
+    match rng.below(12) {
         0 => room.vms[i].memory = 0,
-        1 => room.vms[i].current = rng.pick(&[n, n + 1, 255]),
-        2 => room.vms[i].target = rng.pick(&[n, n + 1, 255]),
-        3 => room.nodes[target].memory = held.memory - 1,
-        4 => room.nodes[target].cpu = held.cpu.saturating_sub(1),
-        5 => room.constraints.push(Constraint::Ban { vms: vec![i], nodes: vec![target] }),
+        1 => room.vms[i].current = rng.pick(&[n, n + 1, 254, NOWHERE]),
+        2 => room.vms[i].target = rng.pick(&[n, n + 1, 254, NOWHERE]),
+        3 => held.into_iter().for_each(|sum| room.nodes[target].memory = sum.memory - 1),
+        4 => held.into_iter().for_each(|sum| room.nodes[target].cpu = sum.cpu.saturating_sub(1)),
+        5 if held.is_some() => {
+            room.constraints.push(Constraint::Ban { vms: vec![i], nodes: vec![target] });
+        }
         6 => room.constraints.push(Constraint::Fence { vms: vec![i], nodes: vec![] }),
         7 => room.constraints.push(fence_elsewhere(n, i, target)),
         8 => room.constraints.push(Constraint::Latency { vms: vec![i], groups: vec![vec![]] }),
+        9 => room.version = Version::One,
         _ => spread_on_one_target(rng, room),
     }
     room.constraints.truncate(128);
@@ -761,7 +915,7 @@ fn fence_elsewhere(n: usize, vm: usize, target: usize) -> Constraint {
     Constraint::Fence { vms: vec![vm], nodes: (0..n).filter(|&node| node != target).collect() }
 }
 
-/// Adds a spread over VMs of one target node, or a latency over VMs of two groups.
+/// Adds a spread over VMs of one target, or a latency over VMs of two groups.
 fn spread_on_one_target(rng: &mut Rng, room: &mut Room) {
     let target = room.vms[rng.below(room.vms.len())].target;
     let (there, away): (Vec<usize>, Vec<usize>) =
@@ -769,9 +923,9 @@ fn spread_on_one_target(rng: &mut Rng, room: &mut Room) {
     if there.len() >= 2 && rng.chance(60) {
         room.constraints.push(Constraint::Spread { vms: there });
     } else if !away.is_empty() {
-        let others = (0..room.nodes.len()).filter(|&node| node != target).collect();
+        let (its, others) = (0..room.nodes.len()).partition(|&node| node == target);
         let vms = (0..room.vms.len()).collect();
-        room.constraints.push(Constraint::Latency { vms, groups: vec![vec![target], others] });
+        room.constraints.push(Constraint::Latency { vms, groups: vec![its, others] });
     }
 }
 
@@ -804,7 +958,7 @@ fn bad_body(rng: &mut Rng, room: &Room) -> Vec<u8> {
     let n = room.nodes.len() as u8;
     let v = room.vms.len().min(255) as u8;
     let node = rng.below(room.nodes.len()) as u8;
-    let choices: [Vec<u8>; 14] = [
+    let choices: [Vec<u8>; 18] = [
         vec![],
         vec![0, 0, 0],
         vec![5, 0, 0],
@@ -816,6 +970,10 @@ fn bad_body(rng: &mut Rng, room: &Room) -> Vec<u8> {
         vec![1, 0, 0],
         vec![1, 0, 0, 1, n],
         vec![2, 0, 0, 2, node, node],
+        vec![1, 0, 0, 1, 255],
+        vec![2, 0, 0, 2, node, 255],
+        vec![4, 0, 0, 1, 1, 255],
+        vec![4, 0, 0, 2, 1, node, 1, 255],
         vec![4, 0, 0, 1],
         vec![4, 0, 0, 2, 1, node, 1, node],
         [vec![4, 0, 0, 65], vec![0; 65]].concat(),
@@ -828,9 +986,9 @@ pub fn damage_cluster(rng: &mut Rng, bytes: &mut Vec<u8>) {
     let n = usize::from(bytes[5]) * 256 + usize::from(bytes[6]);
     let v = usize::from(bytes[7]) * 256 + usize::from(bytes[8]);
     let constraints_at = CLUSTER_HEADER + NODE_ROW * n + VM_ROW * v;
-    match rng.below(16) {
+    match rng.below(17) {
         0 => bytes.truncate(rng.pick(&[0, 1, 5, 9, 10])),
-        1 => bytes[0] = rng.pick(&[0, 2, 255]),
+        1 => bytes[0] = rng.pick(&[0, 3, 255]),
         2 => bytes[4] = bytes[4].wrapping_add(rng.pick(&[1, 255])),
         3 => bytes[rng.pick(&[1, 2])] = rng.pick(&[1, 128, 255]),
         4 => bytes.push(0),
@@ -852,6 +1010,8 @@ pub fn damage_cluster(rng: &mut Rng, bytes: &mut Vec<u8>) {
             bytes[at] = bytes[at].wrapping_add(rng.pick(&[1, 255]));
         }
         13 => bytes.truncate(CLUSTER_HEADER),
+        // The other version's number.
+        15 => bytes[0] = 3 - bytes[0],
         14 => {
             bytes.resize(rng.pick(&[65_535, 65_536, 70_000]), 0);
             state_length(bytes);
@@ -968,6 +1128,14 @@ pub fn sized_case(rng: &mut Rng, size: Size) -> Case {
         3..=34 => knot(rng, size),
         35..=54 => apart(rng, size),
         55 => swaps(rng.range(1, 6)),
+        56 | 57 => {
+            let n = rng.range(1, 8);
+            relay(rng, n)
+        }
+        58 => {
+            let launches = rng.range(1, 4);
+            launches_after_pivots(rng, launches)
+        }
         _ => room(rng, size),
     };
     let (plan, origin) = plan_case(rng, &room);

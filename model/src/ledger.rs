@@ -6,8 +6,8 @@ use crate::rules::{step_cost, step_sum};
 
 const HEADING: [&str; 6] = ["step", "moves", "most", "before", "sum", "total"];
 
-/// The line of a step: its number, its moves, the largest memory among them, what the steps
-/// before it cost in all, what its own moves cost, and what the plan costs up to here.
+/// The line of a step: its number, its moves, the largest memory they move, what the steps before
+/// it cost in all, what its own moves cost, and what the plan costs up to here.
 pub type Line = [u64; 6];
 
 /// The lines of a plan, or why it has none: a VM that is not there has no memory to pay for.

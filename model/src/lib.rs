@@ -21,6 +21,7 @@ pub mod text;
 pub use pack::{pack_answer, pack_verdict};
 pub use planner::{build, Answer};
 pub use records::{cluster_bytes, parse_cluster, parse_plan, plan_bytes};
+pub use records::{on_a_node, NOWHERE};
 pub use records::{Constraint, Move, Node, Plan, Room, Step, Version, Vm};
 pub use rules::{check, Verdict};
 pub use sources::{bare, named};

@@ -2,7 +2,7 @@
 //! begin is tested as it happens. Sums and mates are worked out here afresh from the rows and the
 //! spread lists; nothing of the closed forms in `rules` is used.
 
-use crate::records::{Constraint, Move, Room};
+use crate::records::{on_a_node, Constraint, Move, Room};
 use std::collections::HashSet;
 
 /// How far a move of the step has come.
@@ -30,7 +30,7 @@ pub struct Found {
 }
 
 /// A step under way: the room, where VMs were when it started, and its moves. The step must have
-/// no fault 15, so that each VM moves at most once and to another node. Sources that its moves
+/// no fault 15, so that each VM moves at most once and to another place. Sources that its moves
 /// name are not looked at.
 pub struct Run<'a> {
     pub room: &'a Room,
@@ -40,7 +40,8 @@ pub struct Run<'a> {
 
 impl Run<'_> {
     /// Whether a VM counts on a node: on its source until its move ends, on its destination from
-    /// when its move begins, and so on both while the move runs.
+    /// when its move begins, and so on both while the move runs. A launch has no node to leave, and
+    /// a shutdown none to go to.
     pub fn counts_on(&self, phases: &[Phase], vm: usize, node: usize) -> bool {
         let source = self.start[vm];
         match self.step.iter().position(|m| m.vm == vm) {
@@ -71,9 +72,12 @@ impl Run<'_> {
     }
 
     /// Tests the begin of a waiting move as things stand: the destination's sums with the VM
-    /// included, and the mates that count on the destination.
+    /// included, and the mates that count on the destination. A shutdown may always begin.
     pub fn test_begin(&self, phases: &[Phase], i: usize) -> Found {
         let Move { vm, to, .. } = self.step[i];
+        if !on_a_node(to) {
+            return Found::default();
+        }
         let begun = with(phases, i, Phase::Running);
         Found {
             misfit: !self.is_within(&begun, to),

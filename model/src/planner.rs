@@ -1,6 +1,6 @@
 //! The planner: direct steps while there are any, else one useful pivot, else blocked.
 
-use crate::records::{plan_bytes, Move, Room, Step};
+use crate::records::{on_a_node, plan_bytes, Move, Room, Step};
 use crate::rules::{accepted_cluster, plan_cost, step_fault, Book, Placement};
 use crate::sources::named;
 
@@ -68,8 +68,8 @@ pub fn make_steps_from(room: &Room, start: Placement) -> (Vec<Step>, bool) {
     }
 }
 
-/// Goes through the VMs out of place by number and keeps each move home that leaves the step
-/// gathered so far sound.
+/// Goes through the VMs out of place by number and keeps each move home, launch and shutdown too,
+/// that leaves the step gathered so far sound.
 fn direct_step(room: &Room, book: &Book, here: &Placement) -> Step {
     let mut step = Vec::new();
     for vm in here.out_of_place(room) {
@@ -81,9 +81,9 @@ fn direct_step(room: &Room, book: &Book, here: &Placement) -> Step {
     step
 }
 
-/// The lowest VM that has a useful pivot, sent to its lowest such node.
+/// The lowest VM that has a useful pivot, sent to its lowest such node. Only a VM on a node has one.
 fn useful_pivot(room: &Room, book: &Book, here: &Placement) -> Option<Move> {
-    for vm in here.out_of_place(room) {
+    for vm in here.out_of_place(room).into_iter().filter(|&vm| on_a_node(here.place[vm])) {
         for to in 0..room.nodes.len() {
             let pivot = Move::bare(vm, to);
             if is_useful(room, book, here, pivot) {

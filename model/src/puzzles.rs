@@ -1,5 +1,6 @@
-//! Seeded small clusters that are hard to plan: VMs that change places while next to nothing is
-//! free, with spare nodes to step onto that are small, or closed to some.
+//! Seeded small clusters that are hard to plan: VMs that change places, or are launched and shut
+//! down, while next to nothing is free, with spare nodes to step onto that are small, or closed to
+//! some.
 
 use crate::gen::{self, Rng};
 use crate::records::{Constraint, Node, Room, Vm};
@@ -19,7 +20,8 @@ pub fn puzzle(rng: &mut Rng) -> Room {
         })
         .collect();
     rng.shuffle(&mut vms);
-    let mut room = Room { nodes: vec![Node { memory: 0, cpu: 0 }; n], vms, constraints: vec![] };
+    let mut room = gen::unsized_room(n, vms);
+    gen::some_down(rng, &mut room);
     size_nodes(rng, &mut room);
     for spare in &mut room.nodes[n - spares..] {
         *spare = Node { memory: rng.below(largest + 2) as u64, cpu: rng.range(1, 9) as u64 };

@@ -7,7 +7,16 @@ pub struct Node {
     pub cpu: u64,
 }
 
-/// What a VM needs, where the record says it is, and where it should end.
+/// The place of a VM that is on no node, as current or target of a row and in moves. No node has
+/// this number.
+pub const NOWHERE: usize = 255;
+
+/// Whether a place is a node.
+pub fn on_a_node(place: usize) -> bool {
+    place != NOWHERE
+}
+
+/// What a VM needs, where the record says it is, and where it should end: a node, or nowhere.
 #[derive(Clone, Debug, PartialEq, Eq)]
 pub struct Vm {
     pub memory: u64,
@@ -25,15 +34,24 @@ pub enum Constraint {
     Latency { vms: Vec<usize>, groups: Vec<Vec<usize>> },
 }
 
-/// A cluster record, read.
+/// A cluster record, read. In version 1 every VM is on a node and goes to one.
 #[derive(Clone, Debug, PartialEq, Eq)]
 pub struct Room {
+    pub version: Version,
     pub nodes: Vec<Node>,
     pub vms: Vec<Vm>,
     pub constraints: Vec<Constraint>,
 }
 
-/// One move of a plan: which VM, the source that it names if it names one, and where it goes.
+impl Room {
+    /// Whether some VM is on no node, or should end there.
+    pub fn has_nowhere(&self) -> bool {
+        self.vms.iter().any(|vm| !on_a_node(vm.current) || !on_a_node(vm.target))
+    }
+}
+
+/// One move of a plan: which VM, the source that it names if it names one, and where it goes. From
+/// nowhere it is a launch, to there a shutdown.
 #[derive(Clone, Copy, Debug, PartialEq, Eq)]
 pub struct Move {
     pub vm: usize,
@@ -51,8 +69,9 @@ impl Move {
 /// One step of a plan.
 pub type Step = Vec<Move>;
 
-/// The versions of a plan record. A move is VM and destination in version 1, and VM, source and
-/// destination in version 2.
+/// The versions of a record. In a cluster of version 2 a VM may be on no node. In a plan a move is
+/// VM and destination in version 1, and VM, source and destination in version 2. A cluster and a
+/// plan for it need not be of one version.
 #[derive(Clone, Copy, Debug, PartialEq, Eq)]
 pub enum Version {
     One = 1,
@@ -121,9 +140,7 @@ pub fn parse_cluster(bytes: &[u8]) -> Result<Room, u8> {
     if bytes.len() < CLUSTER_HEADER {
         return Err(1);
     }
-    if bytes[0] != 1 {
-        return Err(2);
-    }
+    let version = Version::of(bytes[0]).ok_or(2)?;
     let stated = count(&bytes[1..5]);
     if stated != bytes.len() || stated > 65_535 {
         return Err(3);
@@ -140,12 +157,13 @@ pub fn parse_cluster(bytes: &[u8]) -> Result<Room, u8> {
 
     let nodes = bytes[CLUSTER_HEADER..vms_at].chunks(NODE_ROW).map(read_node);
     let vms: Vec<Vm> = bytes[vms_at..constraints_at].chunks(VM_ROW).map(read_vm).collect();
-    if vms.iter().any(|vm| vm.memory == 0 || vm.current >= n || vm.target >= n) {
+    let known = |place: usize| place < n || (version == Version::Two && !on_a_node(place));
+    if vms.iter().any(|vm| vm.memory == 0 || !known(vm.current) || !known(vm.target)) {
         return Err(6);
     }
     let constraints: Option<Vec<Constraint>> =
         bodies.iter().map(|body| read_constraint(body, v, n)).collect();
-    Ok(Room { nodes: nodes.collect(), vms, constraints: constraints.ok_or(7)? })
+    Ok(Room { version, nodes: nodes.collect(), vms, constraints: constraints.ok_or(7)? })
 }
 
 /// Cuts the constraints apart by their stated lengths alone. `None` if the rows or the
@@ -316,7 +334,7 @@ pub fn cluster_bytes(room: &Room) -> Vec<u8> {
 
 /// As `cluster_bytes`, with the constraints given as raw bytes behind their length fields.
 pub fn cluster_bytes_with(room: &Room, bodies: &[Vec<u8>]) -> Vec<u8> {
-    let mut bytes = vec![1, 0, 0, 0, 0];
+    let mut bytes = vec![room.version as u8, 0, 0, 0, 0];
     put(&mut bytes, room.nodes.len() as u64, 2);
     put(&mut bytes, room.vms.len() as u64, 2);
     put(&mut bytes, bodies.len() as u64, 2);

@@ -1,7 +1,8 @@
 //! The rules: where VMs are, what nodes hold, what the target and each step may not do, what a
 //! plan costs, and the checker that puts all of this together.
 
-use crate::records::{parse_cluster, parse_plan, Constraint, Move, Room, Step, Vm};
+use crate::records::{on_a_node, parse_cluster, parse_plan};
+use crate::records::{Constraint, Move, Room, Step, Vm, NOWHERE};
 
 /// What the checker says.
 #[derive(Clone, Copy, Debug, PartialEq, Eq)]
@@ -31,7 +32,7 @@ impl Sum {
     }
 }
 
-/// Where each VM is between steps, with each node's sum kept beside it.
+/// Where each VM is between steps, with each node's sum kept beside it. On no node nothing counts.
 #[derive(Clone, Debug, PartialEq, Eq)]
 pub struct Placement {
     pub place: Vec<usize>,
@@ -42,7 +43,7 @@ impl Placement {
     /// A placement with its sums counted afresh.
     pub fn of(room: &Room, place: Vec<usize>) -> Placement {
         let mut sums = vec![Sum::NOTHING; room.nodes.len()];
-        for (vm, &node) in room.vms.iter().zip(&place) {
+        for (vm, &node) in room.vms.iter().zip(&place).filter(|(_, &node)| on_a_node(node)) {
             sums[node] = sums[node].plus(vm);
         }
         Placement { place, sums }
@@ -56,20 +57,24 @@ impl Placement {
         Placement::of(room, room.vms.iter().map(|vm| vm.target).collect())
     }
 
-    /// The placement a step leaves: its VMs on their destinations, all others where they were.
+    /// The placement a step leaves: its VMs at their destinations, all others where they were.
     pub fn after(&self, room: &Room, step: &[Move]) -> Placement {
         let mut next = self.clone();
         for m in step {
             let vm = &room.vms[m.vm];
             let from = next.place[m.vm];
-            next.sums[from] = next.sums[from].minus(vm);
-            next.sums[m.to] = next.sums[m.to].plus(vm);
+            if on_a_node(from) {
+                next.sums[from] = next.sums[from].minus(vm);
+            }
+            if on_a_node(m.to) {
+                next.sums[m.to] = next.sums[m.to].plus(vm);
+            }
             next.place[m.vm] = m.to;
         }
         next
     }
 
-    /// The VMs not on their targets, by number.
+    /// The VMs not at their targets, by number.
     pub fn out_of_place(&self, room: &Room) -> Vec<usize> {
         (0..room.vms.len()).filter(|&vm| self.place[vm] != room.vms[vm].target).collect()
     }
@@ -101,19 +106,26 @@ impl Book {
             mates: vms.map(|vm| mates(room, vm)).collect(),
         }
     }
+
+    /// Whether ban and fence let a move's VM go to its destination. They ask nothing of a shutdown.
+    fn lets(&self, m: &Move) -> bool {
+        !on_a_node(m.to) || self.may_go[m.vm][m.to]
+    }
 }
 
-/// Whether no ban on this VM names the node and every fence around it does.
-pub fn may_go(room: &Room, vm: usize, node: usize) -> bool {
-    room.constraints.iter().all(|constraint| allows(constraint, vm, node))
+/// Whether no ban on this VM names the place and every fence around it does. Nowhere is open to all.
+pub fn may_go(room: &Room, vm: usize, place: usize) -> bool {
+    room.constraints.iter().all(|constraint| allows(constraint, vm, place))
 }
 
-/// Whether a constraint lets this VM go to the node; only a ban or a fence ever does not.
+/// Whether a constraint lets this VM go to the place; only a ban or a fence ever does not.
 #[inline(always)]
-pub fn allows(constraint: &Constraint, vm: usize, node: usize) -> bool {
+pub fn allows(constraint: &Constraint, vm: usize, place: usize) -> bool {
     match constraint {
-        Constraint::Ban { vms, nodes } => !(vms.contains(&vm) && nodes.contains(&node)),
-        Constraint::Fence { vms, nodes } => !vms.contains(&vm) || nodes.contains(&node),
+        Constraint::Ban { vms, nodes } => !(vms.contains(&vm) && nodes.contains(&place)),
+        Constraint::Fence { vms, nodes } => {
+            !vms.contains(&vm) || nodes.contains(&place) || !on_a_node(place)
+        }
         _ => true,
     }
 }
@@ -131,16 +143,26 @@ pub fn mates(room: &Room, vm: usize) -> Vec<usize> {
     (0..room.vms.len()).filter(|&other| other != vm && is_mate[other]).collect()
 }
 
-/// Whether the targets keep one constraint. All listed VMs count, moved or not.
+/// Whether the targets keep one constraint. All listed VMs that end on a node count, moved or not;
+/// those that end on none keep every constraint.
 fn target_keeps(room: &Room, constraint: &Constraint) -> bool {
     let target = |vm: &usize| room.vms[*vm].target;
+    let on_nodes = |vms: &[usize]| -> Vec<usize> {
+        vms.iter().copied().filter(|vm| on_a_node(target(vm))).collect()
+    };
     match constraint {
-        Constraint::Ban { vms, nodes } => vms.iter().all(|vm| !nodes.contains(&target(vm))),
-        Constraint::Fence { vms, nodes } => vms.iter().all(|vm| nodes.contains(&target(vm))),
+        Constraint::Ban { vms, nodes } => {
+            on_nodes(vms).iter().all(|vm| !nodes.contains(&target(vm)))
+        }
+        Constraint::Fence { vms, nodes } => {
+            on_nodes(vms).iter().all(|vm| nodes.contains(&target(vm)))
+        }
         Constraint::Spread { vms } => {
+            let vms = on_nodes(vms);
             vms.iter().all(|a| vms.iter().all(|b| a == b || target(a) != target(b)))
         }
         Constraint::Latency { vms, groups } => {
+            let vms = on_nodes(vms);
             vms.is_empty()
                 || groups.iter().any(|group| vms.iter().all(|vm| group.contains(&target(vm))))
         }
@@ -176,17 +198,19 @@ pub fn step_fault(room: &Room, book: &Book, start: &Placement, step: &[Move]) ->
     match step {
         _ if misnamed(room, start, step) => Some(15),
         _ if misplaced(start, step) => Some(27),
-        _ if step.iter().any(|m| !book.may_go[m.vm][m.to]) => Some(16),
+        _ if !step.iter().all(|m| book.lets(m)) => Some(16),
         _ if misfits(room, start, step) => Some(17),
         _ if meets_mate(book, start, step) => Some(18),
         _ => None,
     }
 }
 
-/// Fault 15: an unknown VM or node, VMs that do not rise, or a move to where the VM already is.
+/// Fault 15: an unknown VM or destination, VMs that do not rise, or a move to where the VM already
+/// is. Nowhere is a destination only for a VM that should end there.
 pub fn misnamed(room: &Room, start: &Placement, step: &[Move]) -> bool {
     let rises = step.windows(2).all(|pair| pair[0].vm < pair[1].vm);
-    let known = |m: &Move| m.vm < room.vms.len() && m.to < room.nodes.len();
+    let may_end = |m: &Move| m.to == NOWHERE && room.vms[m.vm].target == NOWHERE;
+    let known = |m: &Move| m.vm < room.vms.len() && (m.to < room.nodes.len() || may_end(m));
     !rises || !step.iter().all(|m| known(m) && m.to != start.place[m.vm])
 }
 
@@ -195,10 +219,16 @@ pub fn misplaced(start: &Placement, step: &[Move]) -> bool {
     step.iter().any(|m| m.from.is_some_and(|from| from != start.place[m.vm]))
 }
 
+/// The moves of a step that go to a node. The begin of a shutdown is never tested.
+fn arrivals(step: &[Move]) -> impl Iterator<Item = &Move> {
+    step.iter().filter(|m| on_a_node(m.to))
+}
+
 /// Fault 17 in closed form: the worst order begins all moves before any ends, so a destination
-/// carries all it held at the start and all that arrive there in the step.
+/// carries all it held at the start, shut down in the step or not, and all that arrive there in
+/// the step, launched or not.
 pub fn misfits(room: &Room, start: &Placement, step: &[Move]) -> bool {
-    step.iter().any(|m| {
+    arrivals(step).any(|m| {
         let arrivals = step.iter().filter(|other| other.to == m.to);
         let worst = arrivals.fold(start.sums[m.to], |sum, other| sum.plus(&room.vms[other.vm]));
         !within(room, m.to, worst)
@@ -208,7 +238,7 @@ pub fn misfits(room: &Room, start: &Placement, step: &[Move]) -> bool {
 /// Fault 18 in closed form: a mate is on the destination at the start, even if it leaves in this
 /// step, or arrives there in this step.
 pub fn meets_mate(book: &Book, start: &Placement, step: &[Move]) -> bool {
-    step.iter().any(|m| {
+    arrivals(step).any(|m| {
         book.mates[m.vm].iter().any(|&mate| {
             start.place[mate] == m.to || step.iter().any(|o| o.vm == mate && o.to == m.to)
         })
@@ -217,14 +247,23 @@ pub fn meets_mate(book: &Book, start: &Placement, step: &[Move]) -> bool {
 
 // ---------------------------------------------------------------- cost
 
-/// What a step costs: the largest memory it moves.
-pub fn step_cost(room: &Room, step: &[Move]) -> u64 {
-    step.iter().map(|m| room.vms[m.vm].memory).max().unwrap_or(0)
+/// The memory that a move pays for: its VM's, and none for a shutdown.
+fn memory_moved(room: &Room, m: &Move) -> u64 {
+    if on_a_node(m.to) {
+        room.vms[m.vm].memory
+    } else {
+        0
+    }
 }
 
-/// What the moves of a step cost: each pays its VM's memory and the costs of the steps before.
+/// What a step costs: the largest memory it moves.
+pub fn step_cost(room: &Room, step: &[Move]) -> u64 {
+    step.iter().map(|m| memory_moved(room, m)).max().unwrap_or(0)
+}
+
+/// What the moves of a step cost: each pays the memory it moves and the costs of the steps before.
 pub fn step_sum(room: &Room, step: &[Move], before: u64) -> u64 {
-    step.iter().map(|m| room.vms[m.vm].memory + before).sum()
+    step.iter().map(|m| memory_moved(room, m) + before).sum()
 }
 
 /// What a plan costs, built up from its first step to its last. The loop has the shape and the

@@ -34,7 +34,7 @@ pub fn verdict_text(verdict: Verdict) -> String {
     }
 }
 
-/// Step, VM, source and destination of each move of a built plan.
+/// Step, VM, source and destination of each move of a built plan; 255 is on no node.
 fn move_lines(plan: &[u8]) -> String {
     let plan = parse_plan(plan).expect("a plan that was built");
     let mut lines = String::new();

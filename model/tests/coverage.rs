@@ -102,6 +102,60 @@ fn random_plans_of_either_version_reach_everything() {
     assert!(seen[0][27] == 0 && seen[1][27] > 500, "{seen:?}");
 }
 
+/// Clusters of either version come to every outcome of checking and building.
+#[test]
+fn random_clusters_of_either_version_reach_everything() {
+    let (mut checks, mut builds) = ([[0; 28]; 2], [[0; 12]; 2]);
+    for Case { cluster, plan, buffer, .. } in cases(25, 40_000) {
+        let Some(version) = cluster.first().and_then(|&byte| Version::of(byte)) else { continue };
+        checks[version as usize - 1][match check(&cluster, &plan) {
+            Verdict::Accepted { .. } => 0,
+            Verdict::Refused { number, .. } => usize::from(number),
+        }] += 1;
+        builds[version as usize - 1][match built(&cluster, buffer) {
+            Answer::Plan { .. } => 0,
+            Answer::Refused { number, .. } => usize::from(number),
+            Answer::Blocked { .. } => 11,
+        }] += 1;
+    }
+    println!("check, accepted then by number: {checks:?}");
+    println!("build, plan, by number, blocked: {builds:?}");
+    for number in [0].into_iter().chain(3..=9).chain(11..=19).chain([27]) {
+        assert!(checks.iter().all(|counts| counts[number] >= 20), "check {number}: {checks:?}");
+    }
+    for number in [0].into_iter().chain(3..=11) {
+        assert!(builds.iter().all(|counts| counts[number] >= 20), "build {number}: {builds:?}");
+    }
+}
+
+/// Launches and shutdowns in plans that are accepted, and what they are refused with.
+#[test]
+fn random_launches_and_shutdowns() {
+    let (mut launches, mut shutdowns) = ([0; 28], [0; 28]);
+    for Case { cluster, plan, .. } in cases(26, 40_000) {
+        let (Ok(room), Ok(plan)) = (accepted_cluster(&cluster), parse_plan(&plan)) else {
+            continue;
+        };
+        let (number, at) = match rules::check_steps(&room, &plan.steps) {
+            Verdict::Accepted { .. } => (0, plan.steps.len()),
+            Verdict::Refused { number, step } => (usize::from(number), usize::from(step)),
+        };
+        // The moves of the step at fault, or of all steps.
+        let from = if (15..=27).contains(&number) && at > 0 { at - 1 } else { 0 };
+        let mut here = rules::Placement::current(&room);
+        plan.steps[..from].iter().for_each(|step| here = here.after(&room, step));
+        let place = |m: &Move| here.place.get(m.vm).copied();
+        let moves = || plan.steps[from..at].iter().flatten();
+        launches[number] += usize::from(moves().any(|m| place(m) == Some(NOWHERE)));
+        shutdowns[number] += usize::from(moves().any(|m| m.to == NOWHERE));
+    }
+    println!("launches, accepted then by number: {launches:?}");
+    println!("shutdowns, accepted then by number: {shutdowns:?}");
+    for number in [0, 15, 16, 17, 18, 27] {
+        assert!(launches[number] >= 10 && shutdowns[number] >= 3, "{number}");
+    }
+}
+
 /// What plans of each origin come to on whole clusters: accepted, 15, 27, anything else.
 #[test]
 fn random_plans_of_every_origin() {

@@ -3,7 +3,7 @@
 //! is marked, and whose verdict it is is said.
 
 use kobdrieft_model::draw::{page, Whose};
-use kobdrieft_model::edges::{cluster_a, node, sourced, steps, vm};
+use kobdrieft_model::edges::{cluster_a, node, room as made, room_2, sourced, steps, vm};
 use kobdrieft_model::gen::{apart, knot, plan, room, swaps, Rng, Size};
 use kobdrieft_model::orders::{Phase, Run};
 use kobdrieft_model::planner::make_steps;
@@ -51,6 +51,12 @@ impl Thing {
     fn overlaps(&self, other: &Thing) -> bool {
         let apart = self.right <= other.left || other.right <= self.left;
         !(apart || self.bottom <= other.top || other.bottom <= self.top)
+    }
+
+    /// The same, smaller by what rounding may add.
+    fn shrunk(&self) -> Thing {
+        let (left, right) = (self.left + 0.15, self.right - 0.15);
+        Thing { left, right, top: self.top + 0.15, bottom: self.bottom - 0.15, ..self.clone() }
     }
 
     /// Whether this lies in the other, up to rounding.
@@ -107,6 +113,24 @@ fn texts(frame: &str) -> Vec<Thing> {
     parts(frame, "<text", "</text>").map(text).collect()
 }
 
+/// No block of a VM lies over another, and those of VMs on no node lie on the shelf, which is over
+/// all bars.
+fn blocks_apart(whole: &Thing, rects: &[Thing]) {
+    let is = |kind: &'static str| move |rect: &&Thing| rect.class.split(' ').next() == Some(kind);
+    let blocks: Vec<Thing> = rects.iter().filter(is("vm")).map(Thing::shrunk).collect();
+    for (i, block) in blocks.iter().enumerate() {
+        assert!(block.within(whole), "{block:?} is out of the picture");
+        let other = blocks[..i].iter().find(|other| block.overlaps(other));
+        assert!(other.is_none(), "{block:?} lies over {other:?}");
+    }
+    for shelf in rects.iter().filter(is("shelf")) {
+        assert!(shelf.within(whole), "{shelf:?}");
+        let meets = |rect: &&Thing| rect.overlaps(shelf);
+        assert!(rects.iter().filter(is("room")).all(|bar| bar.top > shelf.bottom), "{shelf:?}");
+        assert!(blocks.iter().filter(meets).all(|block| block.within(shelf)), "{shelf:?}");
+    }
+}
+
 /// No text lies over another, all lie in the picture, and the words of a VM lie in its block.
 fn tidy(picture: &str) {
     let (texts, rects) = (texts(picture), rects(picture));
@@ -114,6 +138,7 @@ fn tidy(picture: &str) {
     let (right, bottom) = (attribute(tag, "width").unwrap(), attribute(tag, "height").unwrap());
     let (class, words) = (String::new(), String::new());
     let whole = Thing { class, left: 0.0, right, top: 0.0, bottom, words };
+    blocks_apart(&whole, &rects);
     for (i, text) in texts.iter().enumerate() {
         assert!(text.within(&whole), "{text:?}");
         let other = texts[..i].iter().find(|other| text.overlaps(other));
@@ -162,6 +187,22 @@ fn frames(page: &str) -> Vec<&str> {
     parts(page, "<figure", "</figure>").collect()
 }
 
+/// A place in a label.
+fn brief(place: usize) -> String {
+    if place == 255 {
+        return "none".into();
+    }
+    place.to_string()
+}
+
+/// A place in a sentence.
+fn place_words(place: usize) -> String {
+    if place == 255 {
+        return "no node".into();
+    }
+    format!("node {place}")
+}
+
 /// A frame between steps shows every node, and names every VM, with its target unless it is there.
 fn still(room: &Room, here: &Placement, frame: &str) {
     assert_eq!(frame.matches("class=\"name\"").count(), room.nodes.len());
@@ -175,7 +216,7 @@ fn still(room: &Room, here: &Placement, frame: &str) {
         astray.into_iter().collect()
     );
     for (vm, words) in named {
-        let target = format!("target {}", room.vms[vm].target);
+        let target = format!("target {}", brief(room.vms[vm].target));
         assert!(words.trim_end().ends_with(&target), "{vm}: {words}");
     }
 }
@@ -224,6 +265,14 @@ fn plan_drawn(room: &Room, plan: &Plan) -> String {
         still(room, &here, frames[frames.len() - 1]);
     }
     parts(&page, "<svg class=\"frame\"", "</svg>").for_each(tidy);
+    for frame in &frames {
+        let shelves = frame.matches(">on no node</text>").count();
+        assert_eq!(shelves, usize::from(room.has_nowhere()));
+    }
+    assert_eq!(page.contains("The shelf holds the VMs on no node"), room.has_nowhere());
+    for number in ["node 255", "target 255", "\u{2192} 255", "\u{2190} 255", "to 255", "from 255"] {
+        assert!(!page.contains(number), "{number}");
+    }
     page
 }
 
@@ -251,8 +300,8 @@ fn crowd(nodes: usize, vms: usize, seed: u64) -> Room {
         let (memory, cpu) = (rng.pick(&[1_024, 2_048, 4_096, 16_384]), rng.pick(&[50, 100, 800]));
         vm(memory, cpu, current, target)
     };
-    let vms = (0..vms).map(|_| some_vm()).collect();
-    Room { nodes: vec![node(262_144, 40_000); nodes], vms, constraints: vec![] }
+    let vms: Vec<Vm> = (0..vms).map(|_| some_vm()).collect();
+    made(&vec![node(262_144, 40_000); nodes], &vms, &[])
 }
 
 #[test]
@@ -398,14 +447,22 @@ fn sources_that_are_wrong() {
         &["names node 2 as its source, but VM 0 is on node 0 when the step starts.</p>\n\
              <p>The step behind it is not drawn.</p>"],
     );
+    let far = plan_drawn(&cluster_a(), &sourced(&[&[(0, 0, 2), (1, 254, 0)]]));
+    has(
+        &far,
+        &["<p>The move of VM 1 to node 0 names node 254 as its source, but VM 1 is on node 1 \
+             when the step starts; node 254 is not there (this cluster has nodes 0 to 2).</p>"],
+    );
     let nowhere = plan_drawn(&cluster_a(), &sourced(&[&[(0, 0, 2), (1, 255, 0)]]));
     has(
         &nowhere,
-        &["<p>The move of VM 1 to node 0 names node 255 as its source, but VM 1 is on node 1 \
-             when the step starts; node 255 is not there (this cluster has nodes 0 to 2).</p>"],
+        &["<p>The move of VM 1 to node 0 names no node as its source, but VM 1 is on node 1 \
+             when the step starts.</p>"],
     );
-    assert_eq!(nowhere.matches("class=\"blamed\"").count(), 0);
-    assert_eq!(nowhere.matches("class=\"blamed-vm\"").count(), 1);
+    for page in [far, nowhere] {
+        assert_eq!(page.matches("class=\"blamed\"").count(), 0);
+        assert_eq!(page.matches("class=\"blamed-vm\"").count(), 1);
+    }
 }
 
 /// In a frame that shows only the nodes its step touches, the node that is named is there too; and
@@ -426,6 +483,187 @@ fn sources_that_are_wrong_in_a_large_room() {
     assert_eq!(page.matches("names node 99 as its source").count(), 3);
     has(&page, &["<p>And 2 more like this.</p>"]);
     assert_eq!(page.matches("class=\"blamed\"").count(), 0);
+}
+
+// ---------------------------------------------------------------- on no node
+
+/// VM 0 is shut down on node 0, where VM 1 is launched; VM 2 stays down.
+fn turn(memory: u64, constraints: &[Constraint]) -> Room {
+    let vms = [vm(3, 50, 0, 255), vm(2, 50, 255, 0), vm(9, 50, 255, 255)];
+    room_2(&[node(memory, 100), node(4, 100)], &vms, constraints)
+}
+
+#[test]
+fn a_shutdown_and_a_launch() {
+    let room = turn(4, &[]);
+    let page = drawn(&room, &make_steps(&room).0);
+    has(
+        &page,
+        &[
+            "<h1>2 steps, 2 moves, cost 2</h1>",
+            "The end is the target.",
+            "<h2>Start</h2>\n<p>2 VMs off target.</p>",
+            "<p>VM 0 shut down on node 0.</p>\n\
+             <p>Cost of these moves 0, of the plan so far 0.</p>",
+            "<p>VM 1 launched on node 0.</p>\n\
+             <p>Cost of these moves 2, of the plan so far 2.</p>",
+            "<title>VM 0: memory 3, CPU 50, target no node</title>",
+            "<h2>End</h2>\n<p>Every VM is on its target.</p>",
+        ],
+    );
+    let frames = frames(&page);
+    let words = |frame: &str, class: &str| -> Vec<String> {
+        texts(frame).into_iter().filter(|t| t.class == class).map(|t| t.words).collect()
+    };
+    assert_eq!(
+        words(frames[0], "vm astray"),
+        ["VM 1, target 0", "VM 0 \u{b7} 3 MiB", "target none"]
+    );
+    assert_eq!(words(frames[0], "vm home"), ["VM 2 \u{b7} 9 MiB"]);
+    assert_eq!(words(frames[1], "vm leaves"), ["VM 0 \u{b7} 3 MiB", "shuts down"]);
+    assert_eq!(words(frames[1], "vm arrives"), ["VM 0 \u{2190} 0"]);
+    assert_eq!(words(frames[2], "vm leaves"), ["VM 1 \u{2192} 0"]);
+    assert_eq!(words(frames[2], "vm arrives"), ["VM 1 \u{b7} 2 MiB", "launched"]);
+    assert_eq!(words(frames[3], "vm home").len(), 3);
+    assert!(words(frames[3], "vm astray").is_empty());
+    let memory = |frame: &str| words(frame, "within")[0].clone();
+    assert_eq!(
+        frames.iter().map(|frame| memory(frame)).collect::<Vec<_>>(),
+        ["memory 3 of 4", "memory 3 of 4", "memory 2 of 4", "memory 2 of 4"],
+    );
+    assert_eq!(page.matches("class=\"arrow\"").count(), 2);
+    assert_eq!(page.matches("class=\"shelf\" x=").count(), 2 * frames.len());
+}
+
+/// Who is on the shelf in each frame, by the blocks that lie on it.
+#[test]
+fn who_is_on_the_shelf() {
+    let room = turn(4, &[]);
+    let page = drawn(&room, &make_steps(&room).0);
+    let on_shelf = |frame: &str| {
+        let rects = rects(frame);
+        let shelf = rects.iter().find(|rect| rect.class == "shelf").unwrap();
+        let blocks = rects.iter().filter(|rect| rect.class.starts_with("vm "));
+        let classes = blocks.filter(|block| block.within(shelf)).map(|block| block.class.clone());
+        classes.collect::<Vec<_>>()
+    };
+    let shelves: Vec<Vec<String>> = frames(&page).into_iter().map(on_shelf).collect();
+    let expected: [&[&str]; 4] = [
+        &["vm astray", "vm home"],
+        &["vm astray", "vm home", "vm arrives"],
+        &["vm home", "vm leaves", "vm home"],
+        &["vm home", "vm home"],
+    ];
+    // By number: VM 0 is down from the second step on, VM 1 until then.
+    assert_eq!(shelves, [expected[0], expected[1], expected[2], expected[3]]);
+}
+
+#[test]
+fn a_shutdown_pays_for_nothing() {
+    let page = drawn(&turn(4, &[]), &steps(&[&[(0, 255), (1, 0)]]));
+    has(
+        &page,
+        &[
+            "<b>refused 17 step 1</b>",
+            "<p>VM 0 shut down on node 0, VM 1 launched on node 0.</p>",
+            "<p>An order that fails: begin VM 1: node 0 would have memory 5 of 4 (VM 0 counts \
+             there until its shutdown ends).</p>",
+            ">no space</text>",
+        ],
+    );
+    assert_eq!(page.matches("class=\"blamed\"").count(), 1);
+    let spread = [Constraint::Spread { vms: vec![0, 1, 2] }];
+    let page = drawn(&turn(9, &spread), &steps(&[&[(0, 255), (1, 0)]]));
+    has(
+        &page,
+        &["<p>An order that fails: begin VM 1: node 0 would have VMs 1 and 0, spread mates (VM 0 \
+             counts there until its shutdown ends).</p>"],
+    );
+    assert_eq!(page.matches("class=\"blamed\"").count(), 1);
+    assert_eq!(page.matches("class=\"blamed-vm\"").count(), 2);
+}
+
+/// Moves that name no node, or a node, where they should not: the shelf is marked as a node is.
+#[test]
+fn sources_on_no_node() {
+    let room = turn(9, &[]);
+    let page = plan_drawn(&room, &sourced(&[&[(0, 255, 255)]]));
+    has(
+        &page,
+        &["<p>The shutdown of VM 0 names no node as its source, but VM 0 is on node 0 when the \
+             step starts.</p>"],
+    );
+    assert_eq!(page.matches("class=\"blamed\"").count(), 1);
+    let blamed = rects(frames(&page)[1]);
+    let blamed = |class: &str| blamed.iter().find(|rect| rect.class == class).unwrap().clone();
+    assert_eq!(blamed("blamed").top, 3.0, "the shelf");
+    assert!(blamed("blamed-vm").top > blamed("blamed").bottom, "the VM on its node");
+
+    let page = plan_drawn(&room, &sourced(&[&[(1, 1, 0)]]));
+    has(
+        &page,
+        &["<p>The move of VM 1 to node 0 names node 1 as its source, but VM 1 is on no node when \
+             the step starts.</p>"],
+    );
+    let refused = rects(frames(&page)[1]);
+    let find = |class: &str| refused.iter().find(|rect| rect.class == class).unwrap();
+    assert!(find("blamed-vm").within(find("shelf")), "the VM on the shelf");
+    assert!(find("blamed").top > find("shelf").bottom, "the node that is named");
+}
+
+#[test]
+fn launches_that_are_forbidden_or_go_elsewhere() {
+    let ban = [Constraint::Ban { vms: vec![1, 2], nodes: vec![1] }];
+    let page = drawn(&turn(9, &ban), &steps(&[&[(1, 1)]]));
+    has(&page, &["<p>VM 1 may not go to node 1: ban vms 1 2 nodes 1.</p>", ">forbidden</text>"]);
+    let aside = drawn(&turn(9, &[]), &steps(&[&[(1, 1)], &[(1, 0)], &[(0, 255)]]));
+    has(
+        &aside,
+        &["<p>VM 1 launched on node 1 (pivot).</p>", ">launch, pivot</text>", "A pivot is a move"],
+    );
+    let short = drawn(&turn(9, &[]), &steps(&[&[(1, 0)]]));
+    has(&short, &["The end is not the target: 1 VM is elsewhere.", "<b>refused 19 step 0</b>"]);
+}
+
+#[test]
+fn shutdowns_that_do_not_fit_the_cluster() {
+    let table: [(&[(usize, usize)], &str); 4] = [
+        (&[(1, 255)], "VM 1 is to be shut down, but its target is node 0"),
+        (&[(2, 255)], "VM 2 is to be shut down, but it is on no node already"),
+        (&[(0, 254)], "node 254 is not there (this cluster has nodes 0 to 1)"),
+        (&[(3, 255)], "VM 3 is not there (this cluster has VMs 0 to 2)"),
+    ];
+    for (step, why) in table {
+        let plan = bare(&steps(&[step]));
+        let outcome = page(&turn(9, &[]), &plan, Whose::Model);
+        assert_eq!(
+            outcome,
+            Err(format!("this plan is not one for this cluster: in step 1, {why}"))
+        );
+    }
+    let outcome = page(&cluster_a(), &bare(&steps(&[&[(0, 255)]])), Whose::Model);
+    let why = "in step 1, VM 0 is to be shut down, but its target is node 1";
+    assert_eq!(outcome, Err(format!("this plan is not one for this cluster: {why}")));
+}
+
+/// Shelves of few and many VMs over rooms of few and many nodes.
+#[test]
+fn shelves_of_all_sizes() {
+    for (nodes, down) in [(1, 1), (1, 200), (3, 7), (8, 100), (13, 90), (40, 250), (64, 192)] {
+        let mut room = crowd(nodes, down.max(64), nodes as u64);
+        room.version = Version::Two;
+        for (i, vm) in room.vms.iter_mut().enumerate().take(down) {
+            match i % 3 {
+                0 => vm.current = 255,
+                1 => vm.target = 255,
+                _ => (vm.current, vm.target) = (255, 255),
+            }
+        }
+        room.nodes.fill(node(16_777_215, 65_535));
+        let page = drawn(&room, &make_steps(&room).0);
+        let brief = page.contains("shows the nodes that the step touches");
+        assert_eq!(page.contains(" more</text>"), brief && down > 2, "{nodes} {down}");
+    }
 }
 
 #[test]
@@ -520,13 +758,19 @@ fn told_sources(room: &Room, plan: &Plan, step: usize, page: &str) {
     assert!(!wrong.is_empty());
     for Move { vm, from, to } in wrong.iter().take(3) {
         let (from, place) = (from.unwrap(), start.place[*vm]);
+        let what = match to {
+            255 => format!("shutdown of VM {vm}"),
+            _ => format!("move of VM {vm} to node {to}"),
+        };
+        let (from, place) = (place_words(from), place_words(place));
         let told = format!(
-            "The move of VM {vm} to node {to} names node {from} as its source, but VM {vm} is on \
-             node {place} when the step starts"
+            "The {what} names {from} as its source, but VM {vm} is on {place} when the step starts"
         );
         has(page, &[&told]);
     }
-    let there = |m: &&&Move| m.from.unwrap() < room.nodes.len();
+    let shelf = if room.has_nowhere() { 255 } else { 0 };
+    let is_there = |from: usize| from < room.nodes.len() || from == shelf;
+    let there = |m: &&&Move| is_there(m.from.unwrap());
     let nodes: BTreeSet<usize> = wrong.iter().filter(there).map(|m| m.from.unwrap()).collect();
     assert_eq!(page.matches("class=\"blamed\"").count(), nodes.len());
     assert!(page.matches("class=\"blamed-vm\"").count() >= wrong.len());

@@ -1,7 +1,7 @@
 //! A plan of no bytes and the header of a plan of no steps in either version: one verdict for all
 //! three on every cluster, whole or damaged.
 
-use kobdrieft_model::edges::{cluster_a, edges, node, room as made, steps, vm};
+use kobdrieft_model::edges::{cluster_a, edges, node, room as made, room_2, steps, vm};
 use kobdrieft_model::gen::{apart, cases, knot, ring, room, swaps, Case, Rng, Size};
 use kobdrieft_model::planner::BUFFER;
 use kobdrieft_model::puzzles::puzzle;
@@ -93,12 +93,31 @@ fn with_every_kind(current: [usize; 2]) -> Room {
     made(&[node(2, 1), node(2, 1), node(2, 1)], &vms, &constraints)
 }
 
+/// Three VMs of which one is down for good, one to be launched and one to be shut down, with
+/// constraints of each kind that it keeps for being down.
+fn with_some_down() -> Room {
+    let vms = [vm(9, 9, 255, 255), vm(2, 1, 255, 0), vm(2, 1, 0, 255)];
+    let (down, all) = (vec![0, 2], vec![0, 1, 2]);
+    let constraints = [
+        Constraint::Ban { vms: down.clone(), nodes: vec![0, 1] },
+        Constraint::Fence { vms: down.clone(), nodes: vec![] },
+        Constraint::Spread { vms: all.clone() },
+        Constraint::Latency { vms: all, groups: vec![vec![0]] },
+        Constraint::Latency { vms: down, groups: vec![] },
+    ];
+    room_2(&[node(2, 1), node(2, 1)], &vms, &constraints)
+}
+
 /// Every byte of these records takes every value, with and without the length stated anew; every
 /// front of them is tried, and bytes behind them.
 #[test]
 fn every_damage_of_one_byte() {
     let mut seen = [0; 20];
-    for room in [cluster_a(), with_every_kind([0, 1]), with_every_kind([2, 1])] {
+    let mut down = with_some_down();
+    let rooms = [cluster_a(), with_every_kind([0, 1]), with_every_kind([2, 1]), down.clone()];
+    down.vms.truncate(1);
+    down.constraints.clear();
+    for room in rooms.into_iter().chain([down]) {
         let good = cluster_bytes(&room);
         all_three(&mut seen, &good);
         for length in 0..good.len() {

@@ -33,6 +33,11 @@ fn names(ending: &str) -> BTreeSet<String> {
     files().into_iter().filter(|(_, e)| e == ending).map(|(name, _)| name).collect()
 }
 
+/// Whether a cluster's record is what some text packs to. A damaged one is not.
+fn cluster_has_text(name: &str) -> bool {
+    parse_cluster(&bytes(&format!("{name}.cluster"))).is_ok()
+}
+
 /// Whether a plan's record is what some text packs to. No bytes are not: a text without steps packs
 /// to a header. A damaged record is not, either.
 fn has_text(name: &str) -> bool {
@@ -42,11 +47,12 @@ fn has_text(name: &str) -> bool {
 
 #[test]
 fn every_example_is_whole() {
-    assert!(names("room").len() >= 15);
-    assert_eq!(names("cluster"), names("room"));
-    assert_eq!(names("expected"), names("room"));
+    assert!(names("cluster").len() >= 44);
+    let with_text = names("cluster").into_iter().filter(|name| cluster_has_text(name));
+    assert_eq!(names("room"), with_text.collect());
+    assert_eq!(names("expected"), names("cluster"));
     assert_eq!(names("verdict"), names("plan"));
-    assert!(names("plan").is_subset(&names("room")));
+    assert!(names("plan").is_subset(&names("cluster")));
     let with_text = names("plan").into_iter().filter(|name| has_text(name));
     assert_eq!(names("steps"), with_text.collect());
     let known = ["room", "cluster", "expected", "steps", "plan", "verdict", "md", "sh"];
@@ -69,8 +75,9 @@ fn records_are_what_the_texts_give() {
 #[test]
 fn versions_of_the_plans() {
     let sources = ["a-sources", "a-wrong-source", "a-swapped", "a-same", "a-stays-named"];
-    let two: BTreeSet<String> =
-        sources.into_iter().chain(["a-nothing-2"]).map(String::from).collect();
+    let others =
+        ["a-nothing-2", "launch", "launch-wrong-source", "shutdown-cost", "shutdown-fenced"];
+    let two: BTreeSet<String> = sources.into_iter().chain(others).map(String::from).collect();
     for name in names("steps") {
         let plan = parse_plan(&bytes(&format!("{name}.plan"))).unwrap();
         let expected = if two.contains(&name) { Version::Two } else { Version::One };
@@ -79,6 +86,60 @@ fn versions_of_the_plans() {
     assert!(two.is_subset(&names("steps")));
     for name in ["a-sources", "a-wrong-source", "a-same", "a-stays-named", "a-nothing-2"] {
         assert_eq!(bytes(&format!("{name}.cluster")), bytes("a.cluster"), "{name}");
+    }
+}
+
+/// The clusters in which some VM is or should be on no node are of version 2, and one more is.
+#[test]
+fn versions_of_the_clusters() {
+    let down = [
+        "latency-down",
+        "launch",
+        "launch-after-pivot",
+        "launch-at-once",
+        "launch-mate",
+        "launch-waits",
+        "launch-wrong-source",
+        "shutdown",
+        "shutdown-cost",
+        "shutdown-fenced",
+        "shutdown-wrong",
+        "stays-down",
+    ];
+    let mut found = Vec::new();
+    for name in names("room") {
+        let room = parse_cluster(&bytes(&format!("{name}.cluster"))).unwrap();
+        let two = room.has_nowhere() || name == "a-version-2";
+        assert_eq!(room.version, if two { Version::Two } else { Version::One }, "{name}");
+        found.extend(room.has_nowhere().then_some(name));
+    }
+    assert_eq!(found, down);
+    let [a, two] = ["a", "a-version-2"].map(|name| bytes(&format!("{name}.cluster")));
+    assert_eq!((&a[1..], a[0], two[0]), (&two[1..], 1, 2));
+}
+
+/// The one record here that is damaged, and what it would be in version 2.
+#[test]
+fn clusters_without_a_text() {
+    let without: Vec<String> =
+        names("cluster").into_iter().filter(|name| !cluster_has_text(name)).collect();
+    assert_eq!(without, ["launch-version-1"]);
+    let mut record = bytes("launch-version-1.cluster");
+    assert_eq!(parse_cluster(&record), Err(6));
+    record[0] = 2;
+    assert_eq!(record, bytes("launch.cluster"));
+}
+
+/// The same cluster stands behind several plans.
+#[test]
+fn clusters_that_are_the_same() {
+    let alike = [
+        ("a", "a-shutdown"),
+        ("launch", "launch-wrong-source"),
+        ("launch-waits", "launch-at-once"),
+    ];
+    for (one, other) in alike {
+        assert_eq!(bytes(&format!("{one}.cluster")), bytes(&format!("{other}.cluster")));
     }
 }
 
@@ -92,6 +153,8 @@ fn the_same_plans_without_sources() {
         ("a-swapped", "accepted cost 5\n"),
         ("a-same", "refused 19 step 0\n"),
         ("a-stays-named", "refused 15 step 1\n"),
+        ("launch", "accepted cost 3\n"),
+        ("launch-wrong-source", "accepted cost 3\n"),
     ];
     for (name, line) in table {
         let plan = parse_plan(&bytes(&format!("{name}.plan"))).unwrap();
@@ -161,7 +224,7 @@ fn every_plan_that_fits_is_drawn() {
 #[test]
 fn the_page_names_every_example_and_its_first_line() {
     let page = text("README.md");
-    for name in names("room") {
+    for name in names("cluster") {
         let row = format!("| `{name}` |");
         let row = page.lines().find(|line| line.starts_with(&row)).expect(&name);
         let expected = text(&format!("{name}.expected"));

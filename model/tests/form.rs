@@ -2,7 +2,7 @@
 //! come back as the header of a plan of no steps), and what is not understood is refused at its
 //! line.
 
-use kobdrieft_model::edges::{cluster_a, edges, node, room as made, sourced, steps, vm};
+use kobdrieft_model::edges::{cluster_a, edges, node, room as made, room_2, sourced, steps, vm};
 use kobdrieft_model::form::{read_cluster, read_plan, write_cluster, write_plan, Fault};
 use kobdrieft_model::gen::{apart, cases, knot, plan, ring, room, swaps, Rng, Size};
 use kobdrieft_model::puzzles::puzzle;
@@ -54,15 +54,19 @@ fn generated_clusters() {
 
 #[test]
 fn generated_and_hand_set_records_with_damage() {
-    let (mut clusters, mut plans) = (0, 0);
+    let (mut clusters, mut plans) = ([0; 3], 0);
     let random = cases(32, 20_000).map(|case| (case.cluster, case.plan));
     let set = edges().into_iter().map(|edge| (edge.cluster, edge.plan));
     for (cluster, plan) in random.chain(set) {
-        clusters += usize::from(there_and_back(&cluster));
+        if there_and_back(&cluster) {
+            let room = parse_cluster(&cluster).unwrap();
+            clusters[room.version as usize - 1 + usize::from(room.has_nowhere())] += 1;
+        }
         plans += usize::from(plan_there_and_back(&plan));
     }
-    println!("{clusters} undamaged clusters, {plans} undamaged plans");
-    assert!(clusters > 10_000 && plans > 10_000);
+    println!("undamaged clusters: of version 1, of version 2 with all on nodes, of version 2 with");
+    println!("some on none: {clusters:?}; {plans} undamaged plans");
+    assert!(clusters.iter().all(|&count| count > 1_000) && plans > 10_000);
 }
 
 #[test]
@@ -141,6 +145,77 @@ fn steps_in_either_version() {
     assert_eq!(read_plan(wrong), Ok(sourced(&[&[(0, 255, 255), (0, 9, 9)]])));
 }
 
+/// Records of both versions that differ in nothing but the version have texts that tell it.
+#[test]
+fn clusters_of_either_version() {
+    let rows = "node 4 100 x3\nvm 3 50 from 0 to 1\nvm 2 50 from 1 to 0\n";
+    let two = Room { version: Version::Two, ..cluster_a() };
+    assert_eq!(read_cluster(rows.as_bytes()), Ok(cluster_a()));
+    for text in
+        [format!("version 2\n{rows}"), format!("{rows}\n version 02 # so"), write_cluster(&two)]
+    {
+        assert_eq!(read_cluster(text.as_bytes()), Ok(two.clone()), "{text}");
+    }
+    for text in
+        [format!("version 1\n{rows}"), format!("# a\n{rows}version 1"), write_cluster(&cluster_a())]
+    {
+        assert_eq!(read_cluster(text.as_bytes()), Ok(cluster_a()), "{text}");
+    }
+    assert_eq!(write_cluster(&two).lines().nth(1), Some("version 2"));
+    assert!(!write_cluster(&cluster_a()).contains("version"));
+    let record = cluster_bytes(&two);
+    assert_eq!(record[0], 2);
+    assert_eq!(record[1..], cluster_bytes(&cluster_a())[1..]);
+    assert!(there_and_back(&record));
+}
+
+/// Places on no node, in rows and in moves.
+#[test]
+fn on_no_node() {
+    let rows = "node 4 100 x2\nvm 3 50 from nowhere to 1\nvm 2 50 from 1 to nowhere\n\
+                vm 1 0 from nowhere to nowhere x2\n";
+    let vms = [vm(3, 50, 255, 1), vm(2, 50, 1, 255), vm(1, 0, 255, 255), vm(1, 0, 255, 255)];
+    let expected = room_2(&[node(4, 100), node(4, 100)], &vms, &[]);
+    assert_eq!(read_cluster(rows.as_bytes()), Ok(expected.clone()));
+    assert_eq!(read_cluster(format!("version 2\n{rows}").as_bytes()), Ok(expected.clone()));
+    let text = write_cluster(&expected);
+    let lines: Vec<&str> = text.lines().map(|l| l.split('#').next().unwrap().trim()).collect();
+    assert_eq!(lines[1..], rows.lines().collect::<Vec<_>>(), "no line for the version");
+    assert!(there_and_back(&cluster_bytes(&expected)));
+
+    let pairs = "step 0 to 1, 1 to nowhere\n";
+    assert_eq!(read_plan(pairs.as_bytes()), Ok(bare(&steps(&[&[(0, 1), (1, 255)]]))));
+    let triples = "step 0 from nowhere to 1, 1 from 1 to nowhere\n";
+    let plan = sourced(&[&[(0, 255, 1), (1, 1, 255)]]);
+    assert_eq!(read_plan(triples.as_bytes()), Ok(plan.clone()));
+    assert_eq!(read_plan(b"step 0 from 255 to 1, 1 from 1 to 255"), Ok(plan.clone()));
+    assert_eq!(write_plan(&plan), triples);
+    assert_eq!(write_plan(&bare(&plan.steps)), pairs);
+    assert_eq!(named(&expected, &bare(&plan.steps).steps), plan);
+}
+
+/// A version that is said twice, or that has no VM on no node.
+#[test]
+fn versions_of_clusters_that_are_refused() {
+    let table = [
+        ("version 1\nnode 1 1\nversion 1", 3, "'version' stands here again; line 1 has it"),
+        ("node 1 1\nversion 2\n\nversion 1", 4, "'version' stands here again; line 2 has it"),
+        (
+            "# a\nversion 1\nnode 1 1\nvm 1 1 from 0 to 0\nvm 1 1 from nowhere to 0",
+            2,
+            "version 1 is said, but line 5 has 'nowhere', of version 2",
+        ),
+        (
+            "vm 1 1 from 0 to nowhere\nvm 1 1 from nowhere to 0\nnode 1 1\nversion 1",
+            4,
+            "version 1 is said, but line 1 has 'nowhere', of version 2",
+        ),
+    ];
+    for (text, line, reason) in table {
+        refused(read_cluster(text.as_bytes()), line, reason);
+    }
+}
+
 #[test]
 fn empty_lists() {
     let text = b"node 0 0\nban vms none nodes none\nfence vms none nodes 0\nspread vms none\n\
@@ -204,10 +279,14 @@ fn lines_that_are_refused() {
     let table = [
         (
             "nod 4 100",
-            "no line begins with 'nod', only with node, vm, ban, fence, spread or latency",
+            "no line begins with 'nod', only with version, node, vm, ban, fence, spread or latency",
         ),
         ("step 0 to 1", "'step' belongs in a plan's text; this is read as a cluster"),
-        ("version 2", "'version' belongs in a plan's text; this is read as a cluster"),
+        ("version", "the line ends where the version should stand"),
+        ("version two", "'two' stands where the version should, a number"),
+        ("version 0", "the version cannot be 0 (it goes from 1 to 2)"),
+        ("version 3", "the version cannot be 3 (it goes from 1 to 2)"),
+        ("version 2 2", "'2' stands where the line should end"),
         ("node", "the line ends where the node's memory should stand"),
         ("node 4", "the line ends where the node's CPU should stand"),
         ("node four 100", "'four' stands where the node's memory should, a number"),
@@ -226,6 +305,33 @@ fn lines_that_are_refused() {
         ("vm 1 1 to 0 from 1", "'to' stands where 'from' should"),
         ("vm 1 1 from 0", "the line ends where 'to' should stand"),
         ("vm 1 1 from 0 to", "the line ends where the target node should stand"),
+        (
+            "vm 1 1 from here to 1",
+            "'here' stands where the current node should, a number or 'nowhere'",
+        ),
+        ("vm 1 1 from 0 to no", "'no' stands where the target node should, a number or 'nowhere'"),
+        ("vm 1 1 from nowhere", "the line ends where 'to' should stand"),
+        ("vm 1 1 from nowhere to 1 nowhere", "'nowhere' stands where the line should end"),
+        ("vm nowhere 1 from 0 to 1", "'nowhere' stands where the VM's memory should, a number"),
+        (
+            "vm 1 1 from Nowhere to 1",
+            "'Nowhere' stands where the current node should, a number or 'nowhere'",
+        ),
+        ("vm 1 1 from nowhere to 9", "node 9 is not there (this cluster has nodes 0 to 2)"),
+        (
+            "vm 1 1 from 255 to 1",
+            "node 255 is not there (this cluster has nodes 0 to 2); on no node is 'nowhere'",
+        ),
+        (
+            "vm 1 1 from 0 to 255 x3",
+            "node 255 is not there (this cluster has nodes 0 to 2); on no node is 'nowhere'",
+        ),
+        ("ban vms 0 nodes 255", "node 255 is not there (this cluster has nodes 0 to 2)"),
+        (
+            "ban vms 0 nodes nowhere",
+            "'nowhere' stands where a list of nodes should ('none' if it has no nodes)",
+        ),
+        ("fence vms 0 nodes 0 nowhere", "'nowhere' stands where the line should end"),
         ("vm 1 1 from 3 to 1", "node 3 is not there (this cluster has nodes 0 to 2)"),
         ("vm 1 1 from 0 to 9", "node 9 is not there (this cluster has nodes 0 to 2)"),
         ("vm 1 1 from 0 to 1 x255", "this line makes it 257 VMs; 256 are allowed"),
@@ -305,7 +411,14 @@ fn plans_that_are_refused() {
     }
     let table = [
         ("step 0 from", "the line ends where a source should stand"),
-        ("step 0 from to 1", "'to' stands where a source should, a number"),
+        ("step 0 from to 1", "'to' stands where a source should, a number or 'nowhere'"),
+        ("step 0 from nowhere", "the line ends where 'to' should stand"),
+        ("step nowhere from 0 to 1", "'nowhere' stands where a VM should, a number"),
+        (
+            "step 0 from 0 to none",
+            "'none' stands where a destination should, a number or 'nowhere'",
+        ),
+        ("step 0 from nowhere to 256", "a destination cannot be 256 (it goes from 0 to 255)"),
         ("step 0 from 0", "the line ends where 'to' should stand"),
         ("step 0 from 0 1", "'1' stands where 'to' should"),
         ("step 0 from 256 to 0", "a source cannot be 256 (it goes from 0 to 255)"),

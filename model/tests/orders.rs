@@ -1,17 +1,21 @@
 //! The meaning of a step, order by order, against the closed forms.
 
-use kobdrieft_model::edges::cluster_a;
+use kobdrieft_model::edges::{cluster_a, node, room_2, vm};
 use kobdrieft_model::gen::{room, Rng, Size};
 use kobdrieft_model::orders::{every_order, every_state, explore, follow, Found, Phase, Run};
 use kobdrieft_model::rules::{meets_mate, misfits, step_fault, Book, Placement};
-use kobdrieft_model::{Constraint, Move, Node, Room, Step};
+use kobdrieft_model::{Constraint, Move, Node, Room, Step, NOWHERE};
 
-/// A small room whose nodes were made tight around what they may have to hold in the step.
+/// A small room whose nodes were made tight around what they may have to hold in the step. Often some
+/// VMs are on no node, or go there.
 fn tight(rng: &mut Rng) -> (Room, Placement, Step) {
     let mut room = room(rng, Size::Tiny);
     let (n, v) = (room.nodes.len(), room.vms.len());
-    let start = Placement::of(&room, (0..v).map(|_| rng.below(n)).collect());
-    let step = small_step(rng, &start, n, v);
+    let down = rng.pick(&[0, 20, 40]);
+    let place = |rng: &mut Rng| if rng.chance(down) { NOWHERE } else { rng.below(n) };
+    let start = Placement::of(&room, (0..v).map(|_| place(rng)).collect());
+    room.vms.iter_mut().filter(|_| rng.chance(down)).for_each(|vm| vm.target = NOWHERE);
+    let step = small_step(rng, &start, &room);
     let left = start.after(&room, &step).sums;
     for (node, (before, after)) in room.nodes.iter_mut().zip(start.sums.iter().zip(&left)) {
         let memory = before.memory.max(after.memory) + rng.below(5) as u64;
@@ -26,12 +30,23 @@ fn tight(rng: &mut Rng) -> (Room, Placement, Step) {
 }
 
 /// One to four moves with no fault 15.
-fn small_step(rng: &mut Rng, start: &Placement, n: usize, v: usize) -> Step {
+fn small_step(rng: &mut Rng, start: &Placement, room: &Room) -> Step {
+    let (n, v) = (room.nodes.len(), room.vms.len());
     let mut vms: Vec<usize> = (0..v).collect();
     rng.shuffle(&mut vms);
     vms.truncate(rng.range(1, 4));
     vms.sort();
-    vms.iter().map(|&vm| Move::bare(vm, (start.place[vm] + rng.range(1, n - 1)) % n)).collect()
+    let to = |rng: &mut Rng, vm: usize| match start.place[vm] {
+        NOWHERE => rng.below(n),
+        _ if room.vms[vm].target == NOWHERE && rng.chance(60) => NOWHERE,
+        place => (place + rng.range(1, n - 1)) % n,
+    };
+    vms.iter().map(|&vm| Move::bare(vm, to(rng, vm))).collect()
+}
+
+/// Whether a step has a launch, and whether it has a shutdown.
+fn kinds(start: &Placement, step: &[Move]) -> (bool, bool) {
+    (step.iter().any(|m| start.place[m.vm] == NOWHERE), step.iter().any(|m| m.to == NOWHERE))
 }
 
 fn closed(room: &Room, start: &Placement, step: &[Move]) -> Found {
@@ -41,15 +56,56 @@ fn closed(room: &Room, start: &Placement, step: &[Move]) -> Found {
 #[test]
 fn closed_forms_say_what_all_states_say() {
     let mut rng = Rng::new(1);
-    let mut outcomes = [0; 4];
+    let mut outcomes = [[[0; 4]; 2]; 2];
     for _ in 0..60_000 {
         let (room, start, step) = tight(&mut rng);
         let found = explore(&room, &start.place, &step);
         assert_eq!(found, closed(&room, &start, &step), "{room:?} {start:?} {step:?}");
-        outcomes[usize::from(found.misfit) * 2 + usize::from(found.mate)] += 1;
+        let (launch, shutdown) = kinds(&start, &step);
+        let of_its_kind = &mut outcomes[usize::from(launch)][usize::from(shutdown)];
+        of_its_kind[usize::from(found.misfit) * 2 + usize::from(found.mate)] += 1;
     }
-    println!("sound, 18 only, 17 only, both: {outcomes:?}");
-    assert!(outcomes.iter().all(|&count| count > 1_000), "{outcomes:?}");
+    println!("sound, 18 only, 17 only, both; by shutdown no and yes, by launch no and yes:");
+    println!("{outcomes:?}");
+    assert!(outcomes.as_flattened().as_flattened().iter().all(|&c| c > 200), "{outcomes:?}");
+}
+
+/// The start sums, and who is on which node, with the shutdowns of a step done already: steps that
+/// would be sound so, and are not, are found by some order and by the closed forms alike.
+#[test]
+fn a_shutdown_counts_until_it_has_ended() {
+    let mut rng = Rng::new(6);
+    let (mut misfits, mut mates) = (0, 0);
+    for _ in 0..60_000 {
+        let (room, start, step) = tight(&mut rng);
+        let mut done = start.place.clone();
+        step.iter().filter(|m| m.to == NOWHERE).for_each(|m| done[m.vm] = NOWHERE);
+        let rest: Step = step.iter().filter(|m| m.to != NOWHERE).copied().collect();
+        let (found, then) = (explore(&room, &start.place, &step), explore(&room, &done, &rest));
+        assert!(found.misfit || !then.misfit, "a shutdown takes room from nobody");
+        assert!(found.mate || !then.mate);
+        misfits += usize::from(found.misfit && !then.misfit);
+        mates += usize::from(found.mate && !then.mate);
+        assert_eq!(found, closed(&room, &start, &step));
+    }
+    println!("{misfits} steps do not fit only for a shutdown that still counts, {mates} meet it");
+    assert!(misfits > 500 && mates > 200);
+}
+
+#[test]
+fn a_launch_and_a_shutdown_count_on_one_node() {
+    let room = room_2(&[node(9, 9), node(9, 9)], &[vm(3, 1, 255, 1), vm(2, 4, 1, 255)], &[]);
+    let step = [Move::bare(0, 1), Move::bare(1, 255)];
+    let run = Run { room: &room, start: &[255, 1], step: &step };
+    use Phase::{Ended, Running, Waiting};
+    let loads = |phases: [Phase; 2]| [0, 1].map(|node| run.load(&phases, node));
+    assert_eq!(loads([Waiting, Waiting]), [(0, 0), (2, 4)]);
+    assert_eq!(loads([Running, Waiting]), [(0, 0), (5, 5)]);
+    assert_eq!(loads([Ended, Waiting]), [(0, 0), (5, 5)]);
+    assert_eq!(loads([Waiting, Running]), [(0, 0), (2, 4)]);
+    assert_eq!(loads([Waiting, Ended]), [(0, 0), (0, 0)]);
+    assert_eq!(loads([Running, Running]), [(0, 0), (5, 5)]);
+    assert_eq!(loads([Ended, Ended]), [(0, 0), (3, 1)]);
 }
 
 #[test]

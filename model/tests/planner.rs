@@ -1,7 +1,7 @@
 //! What must hold of every plan the planner makes, and a second planner whose soundness test is
 //! the brute force over orders.
 
-use kobdrieft_model::gen::{apart, knot, ring, room, swaps, Rng, Size};
+use kobdrieft_model::gen::{apart, knot, relay, ring, room, swaps, Rng, Size};
 use kobdrieft_model::orders::{every_order, explore, follow, Found};
 use kobdrieft_model::planner::make_steps;
 use kobdrieft_model::puzzles::puzzle;
@@ -29,6 +29,7 @@ fn hold(room: &Room, tail: usize) -> Answer {
     let written = plan.steps;
     assert_eq!(written.len(), steps);
     sources_are_places(room, &written);
+    launches_and_shutdowns_are_direct(room, &written);
     assert_eq!(written.iter().map(Vec::len).sum::<usize>(), moves);
     assert_eq!(cost_again(room, &written), cost);
 
@@ -59,22 +60,36 @@ fn sources_are_places(room: &Room, steps: &[Step]) {
 
 /// The cost once more, move by move from the start.
 fn cost_again(room: &Room, steps: &[Step]) -> u64 {
-    let largest = |step: &Step| step.iter().map(|m| room.vms[m.vm].memory).max().unwrap();
+    let memory = |m: &Move| if m.to == 255 { 0 } else { room.vms[m.vm].memory };
+    let largest = |step: &Step| step.iter().map(memory).max().unwrap();
     let mut cost = 0;
     for (i, step) in steps.iter().enumerate() {
         let before: u64 = steps[..i].iter().map(largest).sum();
-        cost += step.iter().map(|m| room.vms[m.vm].memory + before).sum::<u64>();
+        cost += step.iter().map(|m| memory(m) + before).sum::<u64>();
     }
     cost
 }
 
-/// Counts of plan, blocked, plans with a pivot, and blocked after some steps.
+/// Nobody is shut down but who should end so, nobody that is on no node goes elsewhere than to its
+/// target, and who should end on no node goes nowhere else.
+fn launches_and_shutdowns_are_direct(room: &Room, steps: &[Step]) {
+    for m in steps.iter().flatten() {
+        let target = room.vms[m.vm].target;
+        let is_direct = m.to == target;
+        assert!(is_direct || (m.from != Some(255) && m.to != 255 && target != 255), "{m:?}");
+    }
+}
+
+/// Counts of plan, blocked, plans with a pivot, blocked after some steps, and plans with launches and
+/// with shutdowns.
 #[derive(Debug, Default)]
 struct Seen {
     plans: usize,
     blocked: usize,
     pivoted: usize,
     blocked_late: usize,
+    launched: usize,
+    shut_down: usize,
 }
 
 type Make = fn(&mut Rng, Size) -> Room;
@@ -89,6 +104,9 @@ fn hold_many(seed: u64, make: Make, size: Size, how_many: usize) -> Seen {
             Answer::Plan { moves, .. } => {
                 seen.plans += 1;
                 seen.pivoted += usize::from(usize::from(moves) > away);
+                let count = |holds: fn(&Vm) -> bool| usize::from(room.vms.iter().any(holds));
+                seen.launched += count(|vm| vm.current == 255 && vm.target != 255);
+                seen.shut_down += count(|vm| vm.current != 255 && vm.target == 255);
             }
             Answer::Blocked { steps, .. } => {
                 seen.blocked += 1;
@@ -106,6 +124,7 @@ fn small_clusters() {
     for size in [Size::Tiny, Size::Small] {
         let seen = hold_many(10, room, size, 20_000);
         assert!(seen.plans > 1_000 && seen.blocked > 1_000);
+        assert!(seen.launched > 1_000 && seen.shut_down > 1_000);
         assert!(seen.pivoted > 100 && seen.blocked_late > 100, "{seen:?}");
     }
 }
@@ -116,6 +135,7 @@ fn knots() {
         let seen = hold_many(15, knot, size, how_many);
         let some = how_many / 20;
         assert!(seen.pivoted > some && seen.blocked > some, "{seen:?}");
+        assert!(seen.launched > some && seen.shut_down > some, "{seen:?}");
     }
 }
 
@@ -163,6 +183,22 @@ fn rings_open_with_one_pivot() {
 }
 
 #[test]
+fn relays_begin_with_a_shutdown_and_end_with_a_launch() {
+    let mut rng = Rng::new(19);
+    for n in 1..=64 {
+        let room = relay(&mut rng, n);
+        let (steps, moves) = (n as u16 + 1, n as u16 + 1);
+        match hold(&room, 0) {
+            Answer::Plan { steps: s, moves: m, .. } => assert_eq!((s, m), (steps, moves)),
+            other => panic!("{other:?}"),
+        }
+        let made = make_steps(&room).0;
+        assert_eq!((made[0][0].to, made[n][0].to), (255, 0));
+        assert_eq!(room.vms[made[n][0].vm].current, 255);
+    }
+}
+
+#[test]
 fn swaps_take_three_steps_a_pair() {
     for pairs in [1, 2, 3, 64, 127, 128] {
         let three = 3 * pairs as u16;
@@ -180,6 +216,7 @@ fn sound(room: &Room, place: &[usize], step: &[Move]) -> bool {
     let rises = step.windows(2).all(|pair| pair[0].vm < pair[1].vm);
     rises
         && step.iter().all(|m| m.to != place[m.vm] && may_go(room, m.vm, m.to))
+        && step.iter().all(|m| m.to < room.nodes.len() || room.vms[m.vm].target == m.to)
         && explore(room, place, step) == Found::default()
 }
 
@@ -210,6 +247,7 @@ fn next_step(room: &Room, place: &[usize]) -> Option<Step> {
     }
     let pairs = away(room, place)
         .into_iter()
+        .filter(|&vm| place[vm] != 255)
         .flat_map(|vm| (0..room.nodes.len()).map(move |to| Move::bare(vm, to)));
     pairs.into_iter().find(|m| useful(room, place, *m)).map(|m| vec![m])
 }

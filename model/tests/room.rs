@@ -166,6 +166,92 @@ fn plans_with_and_without_sources() {
     assert!(!here.0.join("x").exists());
 }
 
+/// A VM is shut down and another launched in its place, from text to a page.
+#[test]
+fn launches_and_shutdowns() {
+    let here = Folder::new("nowhere");
+    let text = "node 4 100\nvm 3 50 from 0 to nowhere\nvm 2 50 from nowhere to 0\n";
+    here.put("turn.txt", text);
+    here.prints("pack turn.txt turn.cluster");
+    assert_eq!(here.get("turn.cluster")[0], 2);
+    let rows = here.prints("unpack turn.cluster");
+    let rows: Vec<&str> = rows.lines().skip(1).map(|row| row.split(" #").next().unwrap()).collect();
+    let rows: Vec<&str> = rows.into_iter().map(str::trim_end).collect();
+    assert_eq!(rows, text.lines().collect::<Vec<_>>());
+    let planned = "plan steps 2 moves 2 cost 2\n1 0 0 255\n2 1 255 0\n";
+    assert_eq!(here.prints("plan turn.cluster turn.plan"), planned);
+    let steps = "step 0 from 0 to nowhere\nstep 1 from nowhere to 0\n";
+    assert_eq!(here.prints("unpack-plan turn.plan"), steps);
+    assert_eq!(here.prints("check turn.cluster turn.plan"), "accepted cost 2\n");
+    let table = here.prints("cost turn.cluster turn.plan");
+    assert_eq!(cells(&table), [HEADING, "1 1 0 0 0 0", "2 1 2 0 2 2", "cost 2"]);
+    here.prints("draw turn.cluster turn.plan turn.html 'accepted cost 2'");
+
+    here.put("both.txt", "step 0 to nowhere, 1 to 0\n");
+    here.prints("pack-plan both.txt both.plan");
+    here.refuses("check turn.cluster both.plan", 17, 1);
+    here.prints("draw turn.cluster both.plan both.html");
+    here.put("wrong.txt", "step 1 to nowhere\n");
+    here.prints("pack-plan wrong.txt wrong.plan");
+    here.refuses("check turn.cluster wrong.plan", 15, 1);
+    let why = "wrong.plan: this plan is not one for this cluster: in step 1, VM 1 is to be shut \
+               down, but its target is node 0";
+    here.fails("draw turn.cluster wrong.plan wrong.html", 2, why);
+
+    let mut record = here.get("turn.cluster");
+    record[0] = 1;
+    here.put("one.cluster", &record);
+    here.refuses("plan one.cluster x.plan", 6, 0);
+    let why = format!("one.cluster: refused with number 6: {}", reason(6));
+    here.fails("unpack one.cluster", 2, &why);
+    here.put("said.txt", format!("# a turn\nversion 1\n{text}"));
+    let why = "said.txt:2: version 1 is said, but line 4 has 'nowhere', of version 2";
+    here.fails("pack said.txt x", 3, why);
+    here.put("number.txt", text.replace("nowhere", "255"));
+    let why = "number.txt:2: node 255 is not there (this cluster has only node 0); on no node is \
+               'nowhere'";
+    here.fails("pack number.txt x", 3, why);
+    assert!(!here.0.join("x").exists());
+}
+
+/// The version is told by a line where nobody is on no node.
+#[test]
+fn clusters_of_version_2_without_nowhere() {
+    let here = Folder::new("version");
+    here.put("a.txt", A);
+    here.put("two.txt", format!("version 2\n{A}"));
+    for name in ["a", "two"] {
+        here.prints(&format!("pack {name}.txt {name}.cluster"));
+        here.prints(&format!("unpack {name}.cluster again.txt"));
+        here.prints("pack again.txt again.cluster");
+        assert_eq!(here.get("again.cluster"), here.get(&format!("{name}.cluster")));
+    }
+    let (one, two) = (here.get("a.cluster"), here.get("two.cluster"));
+    assert_eq!((one[0], two[0], &one[1..]), (1, 2, &two[1..]));
+    let planned = here.prints("plan a.cluster a.plan");
+    assert_eq!(here.prints("plan two.cluster two.plan"), planned);
+    assert_eq!(here.get("two.plan"), here.get("a.plan"));
+}
+
+/// A shutdown has memory 0 and its step counts with 0; it pays for the step before it.
+#[test]
+fn what_a_shutdown_costs() {
+    let here = Folder::new("shutdown-cost");
+    let rows = ["vm 3 10 from 0 to 1", "vm 5 10 from 0 to nowhere", "vm 2 10 from 0 to 1"];
+    here.put("a.txt", format!("node 10 100 x2\n{}\n", rows.join("\n")));
+    here.put("steps.txt", "step 0 to 1\nstep 1 to nowhere\nstep 2 to 1\n");
+    here.prints("pack a.txt a.cluster");
+    here.prints("pack-plan steps.txt a.plan");
+    let table = here.prints("cost a.cluster a.plan");
+    let lines = [HEADING, "1 1 3 0 3 3", "2 1 0 3 3 6", "3 1 2 3 5 11", "cost 11"];
+    assert_eq!(cells(&table), lines);
+    assert_eq!(here.prints("check a.cluster a.plan"), "accepted cost 11\n");
+    here.put("steps.txt", "step 0 to 1, 1 to nowhere\nstep 2 to 1\n");
+    here.prints("pack-plan steps.txt a.plan");
+    let table = here.prints("cost a.cluster a.plan");
+    assert_eq!(cells(&table), [HEADING, "1 2 3 0 3 3", "2 1 2 3 5 8", "cost 8"]);
+}
+
 #[test]
 fn whose_verdict_a_page_shows() {
     let here = Folder::new("whose");
@@ -282,7 +368,7 @@ fn whole(cluster: &[u8], plan: &[u8]) -> Option<(Room, Plan)> {
 fn the_last_word_is_the_cost() {
     let here = Folder::new("cost-cases");
     let mut seen = [0; 28];
-    for Case { cluster, plan, .. } in cases(4, 400) {
+    for Case { cluster, plan, .. } in cases(4, 800) {
         here.put("cluster", &cluster);
         here.put("plan", &plan);
         let (status, table, err) = here.room("cost cluster plan");

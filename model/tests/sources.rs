@@ -98,7 +98,8 @@ fn by_orders(room: &Room, steps: &[Step]) -> (bool, bool) {
     let mut right = true;
     for step in steps {
         let rises = step.windows(2).all(|pair| pair[0].vm < pair[1].vm);
-        let known = |m: &Move| m.vm < room.vms.len() && m.to < room.nodes.len();
+        let ends = |m: &Move| m.to == 255 && room.vms[m.vm].target == 255;
+        let known = |m: &Move| m.vm < room.vms.len() && (m.to < room.nodes.len() || ends(m));
         let moves = |m: &Move| known(m) && m.to != place[m.vm] && may_go(room, m.vm, m.to);
         if !rises || !step.iter().all(moves) || explore(room, &place, step) != Found::default() {
             return (false, right);

@@ -21,7 +21,7 @@ use Rattle.planner.specs.declared.answer.BuildFault.the-variants.{Cluste
 use Rattle.planner.specs.declared.answer.Answer.{Answer}
 use Rattle.planner.specs.declared.answer.Answer.the-variants.{Plan, Blocked, Refused}
 
--- the steps for a room, from its current nodes
+-- the steps for a room, from its current placement
 unfoldable pub stepsFor : Room → List Step
 stepsFor room = picked room (currentOf room)
 

@@ -6,11 +6,11 @@ use mathlib.Core.Path.{_≡_}
 use lib.ListN.{length, getD, set}
 use lib.Dec.{eqb}
 use Rattle.records.specs.Base.{pick, all}
-use Rattle.records.specs.Room.{Constraint, ban, fence, spread, latency, Room, roomOf, nodeOf, vmOf, vmCount, constraintOf}
+use Rattle.records.specs.Room.{Constraint, ban, fence, spread, latency, Room, roomOf, vmOf, vmCount, constraintOf}
 use Rattle.records.specs.Plan.{Step, withSources, moveTotal, stepsBytes, written, shaped}
 use Rattle.records.specs.Inner.{tellsSources}
 use Rattle.records.specs.declared.plan.Source.the-variants.{Unnamed, Named}
-use Rattle.rules.specs.Moments.{Placement, placeOf, currentOf, targetOf, within, withVm, tallyAt, firstMoment, allRunning}
+use Rattle.rules.specs.Moments.{Placement, placeOf, currentOf, targetOf, bears, withVm, tallyAt, firstMoment, allRunning}
 use Rattle.rules.specs.Orders.{spreads, some, meetsMate}
 use Rattle.rules.specs.Rules.{allowed, soundStep}
 use Rattle.rules.specs.Verdict.{home}
@@ -61,15 +61,15 @@ pub record Light (tally : Tally) : Type 0 where
   pub memory : tally .memory < 2 ^ 40
   pub cpu : tally .cpu < 2 ^ 40
 
--- VM v may go to node d, whose tally with those moves running is given
+-- VM v may go to d, whose tally with those moves running is given if it is a node
 unfoldable pub joinsIn : List ℕ → List ℕ → List ℕ → Tally → ℕ → ℕ → Bool
 joinsIn s places dests here v d =
     not (eqb (getD places v 0) d) &&
     (allowed (roomOf s) v d &&
-    (within (nodeOf (roomOf s) d) (withVm here (vmOf (roomOf s) v)) &&
+    (bears (roomOf s) d (withVm here (vmOf (roomOf s) v)) &&
     not (meetsMate (roomOf s) (busyFrom places dests 0 (vmCount s)) v d)))
 
--- where VM v goes: to its target if it may, else nowhere
+-- where VM v goes: to its target if it may, else it has no move
 unfoldable pub goalOf : List ℕ → List ℕ → List ℕ → Tally → ℕ → ℕ
 goalOf s places dests here v = pick (joinsIn s places dests here v (vmOf (roomOf s) v .target)) (vmOf (roomOf s) v .target) noMove
 

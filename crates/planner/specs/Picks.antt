@@ -4,9 +4,9 @@ use mathlib.Core.Bool.{Bool, not, _&&_}
 use mathlib.Core.List.{List, [], _∷_, _++_}
 use mathlib.Core.Path.{_≡_}
 use lib.ListN.{length}
-use lib.Dec.{eqb}
+use lib.Dec.{ltb, eqb}
 use Rattle.records.specs.Base.{pick, sumOf}
-use Rattle.records.specs.Room.{Room}
+use Rattle.records.specs.Room.{Room, onNode}
 use Rattle.records.specs.Plan.{Move, Step, withSources}
 use Rattle.records.specs.declared.plan.Source.the-variants.{Unnamed, Named}
 use Rattle.rules.specs.Moments.{Placement, placeOf, targetOf, after}
@@ -32,7 +32,7 @@ awayCount room places = sumOf (λ v. pick (away room places v) 1 0) (vmsIn room)
 
 -- ---- direct moves
 
--- the move of VM v to node d, and to its target; the source is named once the step is whole (`nextStep`)
+-- the move of VM v to d, and to its target, a launch or a shutdown too; the source is named once the step is whole (`nextStep`)
 abbrev pub moving : ℕ → ℕ → Move
 moving v d = record { vm = v; source = Unnamed; to = d }
 
@@ -61,11 +61,12 @@ directStep room places = joinedAll room places [] (vmsIn room)
 unfoldable pub otherGoes : Room → Placement → ℕ → Bool
 otherGoes room places v = some (λ u. not (eqb u v) && canGo room places u) (vmsIn room)
 
--- a pivot of VM v to node d is useful: v is off its target, d is a third node, the move is sound by itself, and then a different VM has
--- a sound direct move
+-- a pivot of VM v to d is useful: v is on a node and off its target (02, Job 2: a VM that is down is not pivoted), d is a node of the room and
+-- neither of the two, the move is sound by itself, and then a different VM has a sound direct move
 unfoldable pub useful : Room → Placement → ℕ → ℕ → Bool
 useful room places v d =
-    (away room places v && (not (eqb d (placeOf places v)) && not (eqb d (placeOf (targetOf room) v)))) &&
+    ((away room places v && onNode (placeOf places v)) &&
+    (ltb d (length (room .nodes)) && (not (eqb d (placeOf places v)) && not (eqb d (placeOf (targetOf room) v))))) &&
     (soundStep room places (moving v d ∷ []) && otherGoes room (after places (moving v d ∷ [])) v)
 
 -- of two steps the first, unless it has no move

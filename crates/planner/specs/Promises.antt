@@ -6,8 +6,9 @@ use mathlib.Core.List.{List, []}
 use mathlib.Core.Logic.{_↔_, _⊎_}
 use mathlib.Core.Path.{_≡_}
 use lib.ListN.{length}
+use Rattle.records.specs.Bytes.{versionOf}
 use Rattle.records.specs.Room.{Room, roomOf, clusterCheck}
-use Rattle.records.specs.Plan.{Step, versionOf, stepsOf, moveTotal, headerBytes, planBytes, writtenVersion}
+use Rattle.records.specs.Plan.{Step, stepsOf, moveTotal, headerBytes, planBytes, writtenVersion}
 use Rattle.records.specs.declared.faults.ClusterCheck.{ClusterCheck}
 use Rattle.rules.specs.Moments.{Placement, currentOf}
 use Rattle.rules.specs.Orders.{Run, EachBeginOfRun}
@@ -15,7 +16,7 @@ use Rattle.rules.specs.Rules.{targetCheck, soundStep}
 use Rattle.rules.specs.Cost.{costOf}
 use Rattle.rules.specs.Verdict.{verdictOf}
 use Rattle.rules.specs.Returned.{toldNumber, toldStep, toldSteps, toldMoves, toldCost, SaysGood, SaysBlocked, SaysRefused}
-use Rattle.rules.specs.Promises.{afterAll, namedAll, sourcedAll, Obeys, EveryRun, SoundInOrders, NamesPlaces, StaysWithin, StaysApart}
+use Rattle.rules.specs.Promises.{afterAll, namedAll, sourcedAll, Obeys, EveryRun, SoundInOrders, NamesPlaces, StaysWithin, StaysApart, KeepsRunning}
 use Rattle.rules.specs.declared.faults.TargetCheck.{TargetCheck}
 use Rattle.rules.specs.declared.faults.Fault.{Fault}
 use Rattle.rules.specs.declared.faults.Verdict.{Verdict}
@@ -49,7 +50,7 @@ TellsAnswer r (Refused fault) = SaysRefused r (buildNumber fault) 0 × (toldStep
 -- ---- blocked
 
 -- the auditor's second question. The planner has no next step at a placement though somebody is out of place: no VM has a sound direct
--- move, and no pivot of any VM to any node is useful. There may still be a plan.
+-- move, a launch or a shutdown included, and no pivot of any VM to any node is useful. There may still be a plan.
 pub record Stuck (room : Room) (places : Placement) : Type 0 where
   pub lost : (v : ℕ) × (v < length (room .vms)) × (away room places v ≡ true)
   pub no-direct : (v : ℕ) → canGo room places v ≡ false
@@ -69,6 +70,8 @@ pub record Written (cluster plan : List ℕ) (made : Made) : Type 0 where
   -- in no run does a node that is within what it has go past it, or an overfull one take an arrival, or do mates that are apart meet
   pub auditor : StaysWithin (roomOf cluster) (currentOf (roomOf cluster)) (stepsOf plan)
   pub apart : StaysApart (roomOf cluster) (currentOf (roomOf cluster)) (stepsOf plan)
+  -- nor is a VM taken down that is wanted on a node (02, Job 2)
+  pub running : KeepsRunning (roomOf cluster) (currentOf (roomOf cluster)) (stepsOf plan)
   -- how many steps there can be, by the number of VMs out of place at the current nodes
   pub none : awayCount (roomOf cluster) (currentOf (roomOf cluster)) ≡ 0 → stepsOf plan ≡ []
   pub short : 0 < awayCount (roomOf cluster) (currentOf (roomOf cluster)) → length (stepsOf plan) + 1 ≤ 2 * awayCount (roomOf cluster) (currentOf (roomOf cluster))

@@ -15,7 +15,8 @@ ghost use Rattle.rules.specs.Inner.{held, Allows, Placed, destsFrom};
 ghost use Rattle.planner.specs.Picks.{directStep};
 ghost use Rattle.planner.specs.Inner.{Pairs, Light, goalOf};
 
-// Where VM v goes in the step: to its target if it may join the moves before it, `here` being the target's tally with those running.
+// Where VM v goes in the step: to its target, a node or none, if it may join the moves before it, `here` being the target's tally with those
+// running if it is a node.
 fn goal(
     cluster: &[u8],
     allow: &AllowTable,
@@ -50,10 +51,10 @@ pub fn direct_step(
     let mut sums = rules::loads(cluster, places, &dests);
     let mut v: usize = 0;
     while v < n {
-        let d = records::vm_target(cluster, v) as usize;
+        let d = rules::wide(records::vm_target(cluster, v));
         let here = sums[d];
         let to = goal(cluster, allow, pairs, places, &dests, here, v);
-        let t = to as usize;
+        let t = rules::wide(to);
         let there = sums[t];
         sums[t] = there.with(rules::need_of(cluster, v));
         dests[v] = to;

@@ -7,8 +7,9 @@ use rules::NODES;
 use rules::Placement;
 use rules::Tally;
 ghost use mathlib.Core.Path.{_≡_};
+ghost use mathlib.Core.Bool.{true};
 ghost use Prim.Native.Nat.{_<_};
-ghost use Rattle.records.specs.Room.{roomOf, nodeOf, vmOf, nodeCount, vmCount, clusterCheck};
+ghost use Rattle.records.specs.Room.{roomOf, nodeOf, vmOf, nodeCount, vmCount, placeOk, clusterCheck};
 ghost use Rattle.records.specs.declared.faults.ClusterCheck.{ClusterCheck};
 ghost use Rattle.rules.specs.Moments.{within, withVm};
 ghost use Rattle.rules.specs.Inner.{Allows};
@@ -22,7 +23,8 @@ fn fits_with(cluster: &[u8], here: Tally, v: usize, d: usize) -> bool
     rules::within_node(cluster, d, here.with(rules::need_of(cluster, v)))
 }
 
-// Whether VM v may go to node d beside the moves of an array of destinations, `here` being the tally of d with those moves running.
+// Whether VM v may go to d beside the moves of an array of destinations, `here` being the tally of d with those moves running if d is a node.
+// To no node nothing is asked.
 pub fn may_join(
     cluster: &[u8],
     allow: &AllowTable,
@@ -33,11 +35,14 @@ pub fn may_join(
     v: usize,
     d: usize,
 ) -> bool
-    requires { ⌜ (clusterCheck (now cluster) ≡ ClusterCheck.Whole) × Allows (now cluster) (now allow) × Pairs (now cluster) (now pairs) × (v < vmCount (now cluster)) × (d < nodeCount (now cluster)) × Light here ⌝ }
+    requires { ⌜ (clusterCheck (now cluster) ≡ ClusterCheck.Whole) × Allows (now cluster) (now allow) × Pairs (now cluster) (now pairs) × (v < vmCount (now cluster)) × (placeOk true (nodeCount (now cluster)) d ≡ true) × Light here ⌝ }
     ensures { λ r. ⌜ r ≡ joinsIn (now (cluster .entry)) (now (places .entry)) (now (dests .entry)) here v d ⌝ }
 {
-    if rules::node_at(places, v) == d {
+    if rules::place_at(places, v) == d {
         return false;
+    }
+    if NODES <= d {
+        return true;
     }
     if allow[v * NODES + d] == 0 {
         return false;

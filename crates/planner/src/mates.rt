@@ -77,10 +77,10 @@ fn counts(places: &Placement, dests: &Destinations, w: usize, d: usize) -> bool
     requires { ⌜ w < 256 ⌝ }
     ensures { λ r. ⌜ r ≡ (eqb (getD (now (places .entry)) w 0) d || eqb (getD (now (dests .entry)) w 0) d) ⌝ }
 {
-    if rules::node_at(dests, w) == d {
+    if rules::place_at(dests, w) == d {
         return true;
     }
-    rules::node_at(places, w) == d
+    rules::place_at(places, w) == d
 }
 
 // Whether a mate of VM v counts on node d, with every move of the array of destinations running.

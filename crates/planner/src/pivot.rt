@@ -5,6 +5,7 @@ use crate::mates::PairTable;
 use rules::AllowTable;
 use rules::Destinations;
 use rules::NO_MOVE;
+use rules::NODES;
 use rules::Placement;
 use rules::Sums;
 use rules::Tally;
@@ -142,8 +143,12 @@ fn useful_node(
     ensures { λ r. ⌜ r ≡ usefulNode (roomOf (now (cluster .entry))) (held (now (cluster .entry)) places) v (nodesIn (roomOf (now (cluster .entry)))) ⌝ }
 {
     let n = records::node_count(cluster);
-    let p = rules::node_at(&places, v);
+    let p = rules::place_at(&places, v);
     if p == records::vm_target(cluster, v) as usize {
+        return n;
+    }
+    // A VM that is down is not pivoted.
+    if NODES <= p {
         return n;
     }
     let d = pivot_node(cluster, allow, pairs, &places, sums, v);

@@ -114,7 +114,7 @@ pub struct Trail {
     pub home: bool,
 }
 
-// The steps from the current nodes, behind the place of the header, until there is no next one.
+// The steps from the current placement, behind the place of the header, until there is no next one.
 pub fn write_steps(cluster: &[u8], allow: &AllowTable, pairs: &PairTable, out: &mut [u8]) -> Trail
     requires { ⌜ (clusterCheck (now cluster) ≡ ClusterCheck.Whole) × Allows (now cluster) (now allow) × Pairs (now cluster) (now pairs) × (leastBuffer ≤ length (now out)) ⌝ }
     ensures { λ r. ⌜ Trailed (now (cluster .entry)) (now (out .entry)) (now (out .exit)) r ⌝ }

@@ -1,13 +1,13 @@
 -- The plan record (01, "The two records" and refusals 11 to 14): the steps that bytes stand for, what makes them damaged, and the
 -- record that steps are written as.
 use Prim.Native.Nat.{ℕ, zero, suc, _+_, _-_, _*_}
-use mathlib.Core.Bool.{Bool, not, _&&_, _||_}
+use mathlib.Core.Bool.{Bool, not, _&&_}
 use mathlib.Core.List.{List, [], _∷_, _++_, map}
 use mathlib.Core.Path.{_≡_}
 use lib.ListN.{length, getD, take, drop}
 use lib.Dec.{ltb, leb, eqb}
 use Rattle.records.specs.Base.{pick, all, sumOf}
-use Rattle.records.specs.Bytes.{byteAt, be16, be32, bytes16, bytes32, AreBytes}
+use Rattle.records.specs.Bytes.{byteAt, be16, be32, bytes16, bytes32, versionOf, knownVersion, AreBytes}
 use Rattle.records.specs.Room.{rows}
 use Rattle.records.specs.declared.plan.Source.{Source}
 use Rattle.records.specs.declared.plan.Source.the-variants.{Unnamed, Named}
@@ -18,7 +18,7 @@ use Rattle.records.specs.declared.faults.PlanCheck.the-variants.{Whole, 
 
 -- ---- what a record stands for
 
--- a move: a VM, the source that it names or none (02, Job 7), and the node it goes to
+-- a move: a VM, the source that it names or none (02, Job 7), and the place it goes to, a node or `nowhere`
 pub record Move : Type 0 where
   pub vm : ℕ
   pub source : Source
@@ -44,13 +44,7 @@ moveOf step i = getD step i noMove
 abbrev pub stepCount : List ℕ → ℕ
 stepCount s = be16 s 5
 
--- there are two versions: 1 names no sources, 2 names that of each move (02, Job 7)
-abbrev pub versionOf : List ℕ → ℕ
-versionOf s = byteAt s 0
-
-unfoldable pub knownVersion : ℕ → Bool
-knownVersion version = eqb version 1 || eqb version 2
-
+-- version 1 names no sources, version 2 that of each move (02, Job 7)
 unfoldable pub namesSources : ℕ → Bool
 namesSources version = eqb version 2
 

@@ -6,7 +6,7 @@ use mathlib.Core.Path.{_≡_}
 use lib.ListN.{length, getD, take, drop}
 use lib.Dec.{ltb, leb, eqb}
 use Rattle.records.specs.Base.{pick, all}
-use Rattle.records.specs.Bytes.{byteAt, be16, be24, be32, AreBytes}
+use Rattle.records.specs.Bytes.{byteAt, be16, be24, be32, versionOf, knownVersion, AreBytes}
 use Rattle.records.specs.declared.faults.ClusterFault.{ClusterFault}
 use Rattle.records.specs.declared.faults.ClusterFault.the-variants.{TooShort, Version, Length, Counts, Fill, VmRow, Constraint as BadConstraint}
 use Rattle.records.specs.declared.faults.ClusterCheck.{ClusterCheck}
@@ -21,7 +21,15 @@ pub record Node : Type 0 where
   pub memory : ℕ
   pub cpu : ℕ
 
--- a VM: what it needs, the node it is on and the node it is wanted on
+-- a place of a VM is a node's number or this one, which is no node's: the VM is down (02, Job 2)
+abbrev pub nowhere : ℕ
+nowhere = 255
+
+-- a place is not `nowhere`; of a place that there is: it is a node
+unfoldable pub onNode : ℕ → Bool
+onNode place = not (eqb place nowhere)
+
+-- a VM: what it needs, the place it is at and the place it is wanted at
 pub record Vm : Type 0 where
   pub memory : ℕ
   pub cpu : ℕ
@@ -94,6 +102,10 @@ vmCount s = be16 s 7
 
 abbrev pub constraintCount : List ℕ → ℕ
 constraintCount s = be16 s 9
+
+-- in version 2 a VM's row may have `nowhere` as its current or its target place (02, Job 2)
+unfoldable pub knowsNowhere : List ℕ → Bool
+knowsNowhere s = eqb (versionOf s) 2
 
 -- the row of a node, five bytes, and of a VM, seven
 unfoldable pub nodeRow : List ℕ → ℕ → Node
@@ -189,9 +201,12 @@ roomOf s =
 unfoldable pub countsOk : List ℕ → Bool
 countsOk s = leb 1 (nodeCount s) && (leb (nodeCount s) 64 && (leb (vmCount s) 256 && leb (constraintCount s) 128))
 
--- 6: a VM row has memory, and names two nodes of the n there are
-unfoldable pub vmOk : ℕ → Vm → Bool
-vmOk n vm = leb 1 (vm .memory) && (ltb (vm .current) n && ltb (vm .target) n)
+-- 6: a VM row has memory, and each of its two places is one of the n nodes there are, or `nowhere` where that is known
+unfoldable pub placeOk : Bool → ℕ → ℕ → Bool
+placeOk known n place = ltb place n || (known && eqb place nowhere)
+
+unfoldable pub vmOk : Bool → ℕ → Vm → Bool
+vmOk known n vm = leb 1 (vm .memory) && (placeOk known n (vm .current) && placeOk known n (vm .target))
 
 -- 7: a list rises strictly: each element stands above the one before it
 unfoldable pub above : ℕ → List ℕ → Bool
@@ -240,11 +255,11 @@ refuseCluster test fault rest = pick test (Damaged fault) rest
 unfoldable pub clusterCheck : List ℕ → ClusterCheck
 clusterCheck s =
     refuseCluster (ltb (length s) 11) TooShort
-    (refuseCluster (not (eqb (byteAt s 0) 1)) Version
+    (refuseCluster (not (knownVersion (versionOf s))) Version
     (refuseCluster (not (eqb (be32 s 1) (length s)) || ltb 65535 (be32 s 1)) Length
     (refuseCluster (not (countsOk s)) Counts
     (refuseCluster (not (eqb (partsEnd s (constraintsStart s) (constraintCount s)) (length s))) Fill
-    (refuseCluster (not (all (vmOk (nodeCount s)) (roomOf s .vms))) VmRow
+    (refuseCluster (not (all (vmOk (knowsNowhere s) (nodeCount s)) (roomOf s .vms))) VmRow
     (refuseCluster (not (all (wellFormed (vmCount s) (nodeCount s)) (partsOf s))) BadConstraint
     Whole))))))
 

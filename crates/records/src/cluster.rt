@@ -4,8 +4,10 @@ use crate::faults::ClusterCheck;
 use crate::faults::ClusterFault;
 use crate::header::constraints;
 use crate::header::counts_within;
+use crate::header::knows_nowhere;
 use crate::header::length_wrong;
 use crate::header::nodes;
+use crate::header::version_known;
 use crate::header::vms;
 use crate::rows::rows_sound;
 use crate::walk::constraints_fill;
@@ -15,7 +17,7 @@ ghost use Prim.Native.Nat.{_≤_, _<_, _^_};
 ghost use lib.Dec.{eqb};
 ghost use lib.ListN.{length};
 ghost use Rattle.records.specs.Base.{all};
-ghost use Rattle.records.specs.Room.{nodeCount, vmCount, constraintCount, vmsStart, constraintsStart, roomOf, partsOf, partsEnd, vmOk, wellFormed, clusterCheck, ClusterRead};
+ghost use Rattle.records.specs.Room.{nodeCount, vmCount, constraintCount, vmsStart, constraintsStart, roomOf, partsOf, partsEnd, knowsNowhere, vmOk, wellFormed, clusterCheck, ClusterRead};
 
 // Where the VM rows start.
 pub fn vms_start(s: &[u8]) -> usize
@@ -44,9 +46,9 @@ fn filled(s: &[u8]) -> bool
 // 6: whether the VM rows are sound.
 fn vms_sound(s: &[u8]) -> bool
     requires { ⌜ (11 ≤ length (now s)) × (constraintsStart (now s) ≤ length (now s)) ⌝ }
-    ensures { λ r. ⌜ r ≡ all (vmOk (nodeCount (now (s .entry)))) (roomOf (now (s .entry)) .vms) ⌝ }
+    ensures { λ r. ⌜ r ≡ all (vmOk (knowsNowhere (now (s .entry))) (nodeCount (now (s .entry)))) (roomOf (now (s .entry)) .vms) ⌝ }
 {
-    rows_sound(s, vms_start(s), vms(s), nodes(s))
+    rows_sound(s, vms_start(s), vms(s), nodes(s), knows_nowhere(s))
 }
 
 // 7: whether the constraints are well formed.
@@ -64,7 +66,7 @@ fn first_fault(s: &[u8]) -> ClusterCheck
     if s.len() < 11 {
         return ClusterCheck::Damaged(ClusterFault::TooShort);
     }
-    if byte(s, 0) != 1 {
+    if !version_known(byte(s, 0)) {
         return ClusterCheck::Damaged(ClusterFault::Version);
     }
     if length_wrong(s) {

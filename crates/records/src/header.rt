@@ -1,13 +1,32 @@
-// The header of a cluster record.
+// Headers: the version of either record, and the length and the counts of a cluster record.
 use crate::bytes::be32;
+use crate::bytes::byte;
 use crate::bytes::count16;
 ghost use mathlib.Core.Path.{_≡_};
 ghost use mathlib.Core.Bool.{not, _||_};
 ghost use Prim.Native.Nat.{_≤_, _<_, _^_};
 ghost use lib.ListN.{length};
 ghost use lib.Dec.{ltb, eqb};
-ghost use Rattle.records.specs.Bytes.{be32};
-ghost use Rattle.records.specs.Room.{nodeCount, vmCount, constraintCount, countsOk};
+ghost use Rattle.records.specs.Bytes.{be32, knownVersion};
+ghost use Rattle.records.specs.Room.{nodeCount, vmCount, constraintCount, knowsNowhere, countsOk};
+
+// 2 and 12: whether a version is one of the two.
+pub fn version_known(version: u8) -> bool
+    ensures { λ r. ⌜ r ≡ knownVersion version ⌝ }
+{
+    if version == 1 {
+        return true;
+    }
+    version == 2
+}
+
+// Whether VMs of a cluster record may be on no node.
+pub fn knows_nowhere(s: &[u8]) -> bool
+    requires { ⌜ 11 ≤ length (now s) ⌝ }
+    ensures { λ r. ⌜ r ≡ knowsNowhere (now (s .entry)) ⌝ }
+{
+    byte(s, 0) == 2
+}
 
 pub fn nodes(s: &[u8]) -> usize
     requires { ⌜ 11 ≤ length (now s) ⌝ }

@@ -4,13 +4,14 @@ use crate::bytes::byte;
 use crate::bytes::count16;
 use crate::faults::PlanCheck;
 use crate::faults::PlanFault;
+use crate::header::version_known;
 ghost use mathlib.Core.Path.{_≡_};
 ghost use mathlib.Core.Bool.{_&&_};
 ghost use Prim.Native.Nat.{_+_, _*_, _≤_, _<_, _^_};
 ghost use lib.ListN.{length};
-ghost use Rattle.records.specs.Bytes.{be32};
+ghost use Rattle.records.specs.Bytes.{be32, versionOf};
 ghost use lib.Dec.{eqb};
-ghost use Rattle.records.specs.Plan.{stepCount, moveCount, moveOf, moveWidth, versionOf, knownVersion, namesSources, stepAt, stepEnd, stepsOf, stepsEnd, shaped, planCheck, PlanRead};
+ghost use Rattle.records.specs.Plan.{stepCount, moveCount, moveOf, moveWidth, namesSources, stepAt, stepEnd, stepsOf, stepsEnd, shaped, planCheck, PlanRead};
 ghost use Rattle.records.specs.Inner.{stepsOk};
 ghost use Rattle.records.specs.declared.faults.PlanCheck.{PlanCheck};
 
@@ -20,9 +21,7 @@ pub enum Source {
     Named(u8),
 }
 
-// The version whose moves name no source, and the one whose moves do; how many bytes a move has in each.
-const PLAIN: u8 = 1;
-
+// The version whose moves name their sources; how many bytes a move has in the other and in this one.
 pub const NAMING: u8 = 2;
 
 const PLAIN_WIDTH: usize = 2;
@@ -95,16 +94,6 @@ fn shape_sound(s: &[u8]) -> bool
         return false;
     }
     steps_sound(s, count)
-}
-
-// 12: whether a version is one of the two.
-fn version_known(version: u8) -> bool
-    ensures { λ r. ⌜ r ≡ knownVersion version ⌝ }
-{
-    if version == PLAIN {
-        return true;
-    }
-    version == NAMING
 }
 
 // The first fault in checking order. 0 bytes are a plan of no steps.

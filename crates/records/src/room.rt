@@ -8,9 +8,10 @@ use crate::header::constraints;
 use crate::header::nodes;
 use crate::header::vms;
 ghost use mathlib.Core.Path.{_≡_};
+ghost use mathlib.Core.Bool.{true};
 ghost use Prim.Native.Nat.{_+_, _*_, _≤_, _<_, _^_};
 ghost use lib.ListN.{length};
-ghost use Rattle.records.specs.Room.{nodeCount, vmCount, constraintCount, vmsStart, constraintsStart, roomOf, nodeOf, vmOf, clusterCheck};
+ghost use Rattle.records.specs.Room.{nodeCount, vmCount, constraintCount, vmsStart, constraintsStart, roomOf, nodeOf, vmOf, knowsNowhere, placeOk, clusterCheck};
 ghost use Rattle.records.specs.declared.faults.ClusterCheck.{ClusterCheck};
 
 pub fn node_count(s: &[u8]) -> usize
@@ -86,18 +87,21 @@ pub fn vm_cpu(s: &[u8], v: usize) -> u32
     be16(s, vm_row(s, v) + 3)
 }
 
-// The node that VM v is on.
+// The place of a VM that is on no node.
+pub const NOWHERE: u8 = 255;
+
+// Where VM v is: a node, or NOWHERE.
 pub fn vm_current(s: &[u8], v: usize) -> u8
     requires { ⌜ (clusterCheck (now s) ≡ ClusterCheck.Whole) × (v < vmCount (now s)) ⌝ }
-    ensures { λ r. ⌜ (r ≡ vmOf (roomOf (now (s .entry))) v .current) × (r < nodeCount (now (s .entry))) ⌝ }
+    ensures { λ r. ⌜ (r ≡ vmOf (roomOf (now (s .entry))) v .current) × (placeOk (knowsNowhere (now (s .entry))) (nodeCount (now (s .entry))) r ≡ true) ⌝ }
 {
     byte(s, vm_row(s, v) + 5)
 }
 
-// The node that VM v is wanted on.
+// Where VM v is wanted.
 pub fn vm_target(s: &[u8], v: usize) -> u8
     requires { ⌜ (clusterCheck (now s) ≡ ClusterCheck.Whole) × (v < vmCount (now s)) ⌝ }
-    ensures { λ r. ⌜ (r ≡ vmOf (roomOf (now (s .entry))) v .target) × (r < nodeCount (now (s .entry))) ⌝ }
+    ensures { λ r. ⌜ (r ≡ vmOf (roomOf (now (s .entry))) v .target) × (placeOk (knowsNowhere (now (s .entry))) (nodeCount (now (s .entry))) r ≡ true) ⌝ }
 {
     byte(s, vm_row(s, v) + 6)
 }

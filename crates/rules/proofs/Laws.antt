@@ -3,6 +3,7 @@ pub mod Orders
 pub mod Sound
 pub mod Runs
 pub mod Spreads
+pub mod Running
 pub mod Sources
 pub mod Returned
 pub mod Verdicts

@@ -6,11 +6,11 @@ use mathlib.Core.Path.{_≡_}
 use lib.ListN.{length, getD, set, take, drop, replicate}
 use lib.Dec.{ltb, eqb}
 use Rattle.records.specs.Base.{pick, all, sumOf}
-use Rattle.records.specs.Room.{Constraint, ban, fence, spread, latency, Room, vmOf, nodeOf, roomOf, nodeCount, vmCount, nodesOf, groupsOf, listOk, groupsFrom, groupsEnd, constraintOf, filled, clusterCheck}
+use Rattle.records.specs.Room.{Constraint, ban, fence, spread, latency, Room, vmOf, nodeOf, roomOf, nodeCount, vmCount, nodesOf, groupsOf, placeOk, listOk, groupsFrom, groupsEnd, constraintOf, filled, clusterCheck}
 use Rattle.records.specs.Inner.{Below, Steps}
 use Rattle.records.specs.Plan.{Step, moveOf, stepAt, stepEnd, stepsFrom, stepsOf}
 use Rattle.records.specs.declared.faults.ClusterCheck.{ClusterCheck}
-use Rattle.rules.specs.Moments.{Placement, placeOf, targetOf, Phase, idle, running, cell, Moment, tallyAt, emptyTally, within}
+use Rattle.rules.specs.Moments.{Placement, placeOf, targetOf, Phase, idle, running, cell, Moment, tallyAt, emptyTally, within, bears}
 use Rattle.rules.specs.Cost.{memoryOf, costOf}
 use Rattle.rules.specs.Orders.{some}
 use Rattle.rules.specs.Rules.{from, allowed, named, fitting, unmet}
@@ -32,11 +32,11 @@ pub record NeedOf (room : Room) (v : ℕ) (need : Need) : Type 0 where
 unfoldable pub held : List ℕ → List ℕ → Placement
 held s places = take (vmCount s) places
 
--- the places of an array are nodes that there are
+-- the places of an array are nodes that there are, or `nowhere`
 pub record Placed (s places : List ℕ) : Type 0 where
-  pub below : (v : ℕ) → getD places v 0 < nodeCount s
+  pub each : (v : ℕ) → placeOk true (nodeCount s) (getD places v 0) ≡ true
 
--- an array holds a placement of the room of a record: its first places, and all are nodes that there are
+-- an array holds a placement of the room of a record: its first places, and all are such
 pub record Holds (s places : List ℕ) (placement : Placement) : Type 0 where
   pub is : held s places ≡ placement
   pub placed : Placed s places
@@ -68,37 +68,32 @@ unfoldable pub busyFrom : List ℕ → List ℕ → ℕ → ℕ → Moment
 busyFrom places dests v zero = []
 busyFrom places dests v (suc n) = cell v (getD places v 0) (goalIn dests v) ∷ busyFrom places dests (suc v) n
 
--- places and destinations are such that a tally can be kept: nodes, or no move, and no VM goes where it is
+-- places and destinations are such that a tally can be kept: no VM goes to the node it is on
 pub record Ready (s places dests : List ℕ) : Type 0 where
-  pub place : (v : ℕ) → v < vmCount s → getD places v 0 < 64
-  pub most : (v : ℕ) → v < vmCount s → getD dests v 0 ≤ noMove
-  pub leaves : (v : ℕ) → v < vmCount s → getD dests v 0 ≡ getD places v 0 → ⊥
+  pub leaves : (v : ℕ) → v < vmCount s → getD dests v 0 < 64 → getD dests v 0 ≡ getD places v 0 → ⊥
 
 -- the sums over the VMs from v on
 pub record Loaded (s places dests : List ℕ) (v : ℕ) (sums : List Tally) : Type 0 where
-  pub size : length sums ≡ 65
+  pub size : length sums ≡ 256
   pub each : (d : ℕ) → d < 64 → getD sums d emptyTally ≡ tallyAt (roomOf s) d (busyFrom places dests v (vmCount s - v))
-  pub memory-most : (d : ℕ) → getD sums d emptyTally .memory ≤ (vmCount s - v) * 16777216
-  pub cpu-most : (d : ℕ) → getD sums d emptyTally .cpu ≤ (vmCount s - v) * 65536
+  pub memory-most : (d : ℕ) → getD sums d emptyTally .memory ≤ (vmCount s - v) * 33554432
+  pub cpu-most : (d : ℕ) → getD sums d emptyTally .cpu ≤ (vmCount s - v) * 131072
 
--- the tallies of 65 nodes at a moment; nobody is on the last, which is no node
-unfoldable pub loadsOf : Room → Moment → List Tally
-loadsOf room cs = map (λ d. tallyAt room d cs) (from 0 65)
-
--- the sums over all VMs are those, and a VM can be added to each
+-- the sums over all VMs are the tallies of the nodes, and a VM can be added to each
 pub record Loads (s places dests : List ℕ) (sums : List Tally) : Type 0 where
-  pub is : sums ≡ loadsOf (roomOf s) (busyFrom places dests 0 (vmCount s))
-  pub memory-most : (d : ℕ) → getD sums d emptyTally .memory ≤ vmCount s * 16777216
-  pub cpu-most : (d : ℕ) → getD sums d emptyTally .cpu ≤ vmCount s * 65536
+  pub size : length sums ≡ 256
+  pub each : (d : ℕ) → d < 64 → getD sums d emptyTally ≡ tallyAt (roomOf s) d (busyFrom places dests 0 (vmCount s))
+  pub memory-most : (d : ℕ) → getD sums d emptyTally .memory ≤ vmCount s * 33554432
+  pub cpu-most : (d : ℕ) → getD sums d emptyTally .cpu ≤ vmCount s * 131072
 
--- each VM and each destination of a step is there
+-- each VM of a step is there, and each destination is a node that there is, or `nowhere`
 pub record Aimed (s : List ℕ) (step : Step) : Type 0 where
   pub vms : (i : ℕ) → i < length step → moveOf step i .vm < vmCount s
-  pub each : (i : ℕ) → i < length step → moveOf step i .to < nodeCount s
+  pub each : (i : ℕ) → i < length step → placeOk true (nodeCount s) (moveOf step i .to) ≡ true
 
--- the tally of each destination, as the sums have it, is within what the node has
+-- each destination bears its tally, as the sums have it
 unfoldable pub fitsIn : Room → List Tally → Step → Bool
-fitsIn room sums step = all (λ move. within (nodeOf room (move .to)) (getD sums (move .to) emptyTally)) step
+fitsIn room sums step = all (λ move. bears room (move .to) (getD sums (move .to) emptyTally)) step
 
 -- ---- where each VM may go, as a table of 64 marks a VM
 
@@ -141,27 +136,21 @@ pub record Allows (s table : List ℕ) : Type 0 where
 
 -- ---- spreads
 
--- each element is a node or no move
-pub record Nodes (l : List ℕ) : Type 0 where
-  pub each : (v : ℕ) → getD l v 0 ≤ noMove
-
 -- marks where VMs start
 unfoldable pub startMarks : List ℕ → List ℕ → List ℕ → List ℕ
 startMarks marks places [] = marks
 startMarks marks places (v ∷ vs) = startMarks (set marks (getD places v 0) 1) places vs
 
--- no move leaves no mark
-abbrev pub markOf : ℕ → ℕ
-markOf d = pick (ltb d noMove) 1 0
-
--- each VM arrives at an unmarked node, which is then marked
+-- each VM that arrives at a node finds it unmarked; it is then marked
 unfoldable pub goUnmet : List ℕ → List ℕ → List ℕ → Bool
 goUnmet marks dests [] = true
 goUnmet marks dests (v ∷ vs) =
-    pick (eqb (getD marks (getD dests v 0) 0) 0) (goUnmet (set marks (getD dests v 0) (markOf (getD dests v 0))) dests vs) false
+    pick (ltb (getD dests v 0) 64)
+    (pick (eqb (getD marks (getD dests v 0) 0) 0) (goUnmet (set marks (getD dests v 0) 1) dests vs) false)
+    (goUnmet marks dests vs)
 
 unfoldable pub listUnmet : List ℕ → List ℕ → List ℕ → Bool
-listUnmet places dests vms = goUnmet (startMarks (replicate 65 0) places vms) dests vms
+listUnmet places dests vms = goUnmet (startMarks (replicate 256 0) places vms) dests vms
 
 unfoldable pub spreadOk : List ℕ → List ℕ → Constraint → Bool
 spreadOk places dests (ban vms nodes) = true
@@ -189,10 +178,6 @@ movesCost room before step = sumOf (λ move. memoryOf room move + before) step
 
 -- ---- the target
 
--- the places of an array are below 64
-pub record Low (places : List ℕ) : Type 0 where
-  pub below : (v : ℕ) → getD places v 0 < 64
-
 -- a constraint's part: its lists fill it, and name nodes below 64 and VMs in order
 pub record Formed (p : List ℕ) : Type 0 where
   pub fills : filled p ≡ true
@@ -209,9 +194,13 @@ homeFrom room places v n = all (λ u. eqb (placeOf places u) (placeOf (targetOf 
 
 -- no VM is on a stopped node
 unfoldable pub clearOf : List ℕ → List ℕ → List ℕ → Bool
-clearOf stop places vms = all (λ v. eqb (getD stop (getD places v 0) 0) 0) vms
+clearOf stop places vms = all (λ v. pick (ltb (getD places v 0) 64) (eqb (getD stop (getD places v 0) 0) 0) true) vms
 
--- all VMs are in a group
+-- no VM is on a node: none would be if every node were stopped
+unfoldable pub allDown : List ℕ → List ℕ → Bool
+allDown places vms = clearOf (replicate 64 1) places vms
+
+-- all VMs on nodes are in a group
 unfoldable pub groupHolds : List ℕ → List ℕ → List ℕ → Bool
 groupHolds places vms g = clearOf (stopped (replicate 64 1) 0 g) places vms
 
@@ -219,8 +208,8 @@ groupHolds places vms g = clearOf (stopped (replicate 64 1) 0 g) places vms
 unfoldable pub keepsIn : List ℕ → Constraint → Bool
 keepsIn places (ban vms nodes) = clearOf (stopped (replicate 64 0) 1 nodes) places vms
 keepsIn places (fence vms nodes) = clearOf (stopped (replicate 64 1) 0 nodes) places vms
-keepsIn places (spread vms) = goUnmet (replicate 65 0) places vms
-keepsIn places (latency vms groups) = eqb (length vms) 0 || some (groupHolds places vms) groups
+keepsIn places (spread vms) = goUnmet (replicate 256 0) places vms
+keepsIn places (latency vms groups) = allDown places vms || some (groupHolds places vms) groups
 
 -- the last n groups of a constraint's part start at a place
 pub record Grouping (p : List ℕ) (at n : ℕ) : Type 0 where

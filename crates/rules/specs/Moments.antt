@@ -5,11 +5,11 @@ use mathlib.Core.List.{List, [], _∷_, map}
 use lib.ListN.{length, getD, set}
 use lib.Dec.{leb, eqb}
 use Rattle.records.specs.Base.{pick, all}
-use Rattle.records.specs.Room.{Node, Vm, Room, vmOf}
+use Rattle.records.specs.Room.{Node, Vm, Room, nodeOf, vmOf, onNode}
 use Rattle.records.specs.Plan.{Move, Step}
 use Rattle.rules.specs.declared.tally.Tally.{Tally}
 
--- a placement: the node that each VM is on, by VM number
+-- a placement: the place of each VM, a node or `nowhere`, by VM number
 abbrev pub Placement : Type 0
 Placement = List ℕ
 
@@ -39,6 +39,10 @@ withVm tally vm = record { memory = tally .memory + vm .memory; cpu = tally .cpu
 unfoldable pub within : Node → Tally → Bool
 within node tally = leb (tally .memory) (node .memory) && leb (tally .cpu) (node .cpu)
 
+-- a place bears a tally: a node if the tally is within what it has; on no node nothing is asked (02, Job 2)
+unfoldable pub bears : Room → ℕ → Tally → Bool
+bears room d tally = pick (onNode d) (within (nodeOf room d) tally) true
+
 -- how far a VM's move in a step has come, with its destination; idle if it has none
 pub data Phase : Type 0 where
   idle : Phase
@@ -57,7 +61,8 @@ Moment = List Cell
 abbrev pub numberOf : Cell → ℕ
 numberOf (cell v place phase) = v
 
--- where a VM counts: on its place until its move begins, on both nodes while it runs, on its destination once it has ended
+-- where a VM counts: on its place until its move begins, on both places while it runs, on its destination once it has ended. So a launch
+-- counts on one node only, and a shutdown on its node until its end; `nowhere` is no node, and nothing is claimed or asked of it (02, Job 2)
 unfoldable pub countsOn : ℕ → Cell → Bool
 countsOn d (cell v place idle) = eqb place d
 countsOn d (cell v place (waiting to)) = eqb place d

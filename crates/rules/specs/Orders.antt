@@ -5,9 +5,10 @@ use mathlib.Core.List.{List, [], _∷_}
 use mathlib.Core.Logic.{_⊎_}
 use mathlib.Core.Path.{_≡_}
 use lib.Dec.{eqb}
-use Rattle.records.specs.Room.{Constraint, ban, fence, spread, latency, has, Room, vmOf, nodeOf}
+use Rattle.records.specs.Base.{pick}
+use Rattle.records.specs.Room.{Constraint, ban, fence, spread, latency, has, Room, vmOf, onNode}
 use Rattle.records.specs.Plan.{Step}
-use Rattle.rules.specs.Moments.{Placement, waiting, running, ended, Cell, cell, Moment, numberOf, countsOn, within, withVm, tallyAt, firstMoment, atRest, settled, placesLeft}
+use Rattle.rules.specs.Moments.{Placement, waiting, running, ended, Cell, cell, Moment, numberOf, countsOn, bears, withVm, tallyAt, firstMoment, atRest, settled, placesLeft}
 
 -- ---- what happens in a step
 
@@ -36,9 +37,9 @@ pub data Run (room : Room) : Placement → List Step → Placement → Type 0 wh
 
 -- ---- when a move may begin
 
--- the VM fits: with it, the node's tally at this moment is within what the node has
+-- the VM fits: with it, its destination bears the tally at this moment
 unfoldable pub fits : Room → Moment → ℕ → ℕ → Bool
-fits room cs v d = within (nodeOf room d) (withVm (tallyAt room d cs) (vmOf room v))
+fits room cs v d = bears room d (withVm (tallyAt room d cs) (vmOf room v))
 
 -- two VMs are mates if some spread names both
 unfoldable pub spreads : ℕ → ℕ → Constraint → Bool
@@ -54,17 +55,17 @@ some p (x ∷ xs) = p x || some p xs
 unfoldable pub mates : Room → ℕ → ℕ → Bool
 mates room v w = not (eqb v w) && some (spreads v w) (room .constraints)
 
--- a mate of the VM counts on the node
+-- the destination is a node, and a mate of the VM counts there: on no node nobody is met (02, Job 2)
 unfoldable pub meetsMate : Room → Moment → ℕ → ℕ → Bool
-meetsMate room cs v d = some (λ c. mates room v (numberOf c) && countsOn d c) cs
+meetsMate room cs v d = pick (onNode d) (some (λ c. mates room v (numberOf c) && countsOn d c) cs) false
 
--- VM v counts on a node at a moment
+-- VM v counts on a place at a moment
 unfoldable pub standsOn : Moment → ℕ → ℕ → Bool
 standsOn cs v d = some (λ c. eqb (numberOf c) v && countsOn d c) cs
 
 -- two VMs share no node: there is none on which both count
 abbrev pub Apart : ℕ → ℕ → Moment → Type 0
-Apart v w cs = (d : ℕ) → standsOn cs v d ≡ true → standsOn cs w d ≡ true → ⊥
+Apart v w cs = (d : ℕ) → onNode d ≡ true → standsOn cs v d ≡ true → standsOn cs w d ≡ true → ⊥
 
 -- ---- claims over all begins and all moments
 
@@ -104,7 +105,7 @@ EachChangeOfRun R stop = Unit
 EachChangeOfRun R {room = room} (step {places = places} {moves = moves} {end = end} o s r) =
     R (atRest room places) (firstMoment room places moves) × EachChange R o × R end (atRest room (placesLeft end)) × EachChangeOfRun R r
 
--- a move may begin: it fits, and meets no mate
+-- a move may begin: it fits, and meets no mate; so to no node it always may
 pub record MayBegin (room : Room) (cs : Moment) (v d : ℕ) : Type 0 where
   pub fit : fits room cs v d ≡ true
   pub apart : meetsMate room cs v d ≡ false

@@ -5,14 +5,15 @@ use mathlib.Core.List.{List, [], _∷_, map}
 use mathlib.Core.Logic.{_↔_, _⊎_}
 use mathlib.Core.Path.{_≡_}
 use lib.ListN.{length, getD, take}
-use Rattle.records.specs.Room.{Room, nodeOf, roomOf, clusterCheck}
-use Rattle.records.specs.Plan.{Move, Step, withSources, moveOf, versionOf, stepsOf, planCheck, headerBytes}
+use Rattle.records.specs.Bytes.{versionOf}
+use Rattle.records.specs.Room.{Room, nodeOf, nowhere, roomOf, clusterCheck}
+use Rattle.records.specs.Plan.{Move, Step, withSources, moveOf, stepsOf, planCheck, headerBytes}
 use Rattle.records.specs.declared.plan.Source.{Source}
 use Rattle.records.specs.declared.plan.Source.the-variants.{Named}
 use Rattle.records.specs.declared.faults.ClusterCheck.{ClusterCheck}
 use Rattle.records.specs.declared.faults.PlanCheck.{PlanCheck}
 use Rattle.rules.specs.Moments.{Placement, placeOf, currentOf, targetOf, after, Moment, tallyAt, within, firstMoment, atRest, settled}
-use Rattle.rules.specs.Orders.{Order, Run, fits, mates, meetsMate, Apart, MayBegin, EachBegin, SomeBegin, EachBeginOfRun, EachMomentOfRun, EachChangeOfRun}
+use Rattle.rules.specs.Orders.{Order, Run, fits, mates, meetsMate, standsOn, Apart, MayBegin, EachBegin, SomeBegin, EachBeginOfRun, EachMomentOfRun, EachChangeOfRun}
 use Rattle.rules.specs.Rules.{allowed, targetCheck, named, sourced, permitted, soundStep}
 use Rattle.rules.specs.Cost.{costOf}
 use Rattle.rules.specs.Verdict.{home, verdictOf, faultNumber, faultStep, packed}
@@ -70,13 +71,13 @@ pub record SomeOrder (room : Room) (places : Placement) (step : Step) (P : Momen
 
 -- ---- what the numbers 15 to 19 and 27 mean
 
--- 15: a VM is not there or not above the one before it, or a destination is not there or is its VM's place
+-- 15: a VM is not there or not above the one before it, or a destination is not one that it can be sent to, or is its place
 pub record FaultNames (room : Room) (places : Placement) (step : Step) : Type 0 where
   pub misnamed : named room places 0 step ≡ false
 
--- 27: not 15, and some move names a node that its VM is not on
+-- 27: not 15, and some move names a place that its VM is not at
 abbrev pub NamesElsewhere : Placement → Step → Type 0
-NamesElsewhere places step = (i : ℕ) × (i < length step) × (node : ℕ) × (moveOf step i .source ≡ Named node) × (node ≡ placeOf places (moveOf step i .vm) → ⊥)
+NamesElsewhere places step = (i : ℕ) × (i < length step) × (source : ℕ) × (moveOf step i .source ≡ Named source) × (source ≡ placeOf places (moveOf step i .vm) → ⊥)
 
 pub record FaultSource (room : Room) (places : Placement) (step : Step) : Type 0 where
   pub well-named : named room places 0 step ≡ true
@@ -121,7 +122,7 @@ pub record EndsAway (room : Room) (places : Placement) (steps : List Step) : Typ
 
 -- ---- what holds of the sources that are named
 
--- the operators' point, in every run. Each move of each step names a source, and it is the very node that its VM is on when the step starts
+-- the operators' point, in every run. Each move of each step names a source, and it is the very place of its VM when the step starts
 pub record NamesPlaces (room : Room) (places : Placement) (steps : List Step) : Type 0 where
   pub each : (n i : ℕ) → n < length steps → i < length (getD steps n []) → (start : Placement) → Run room places (take n steps) start →
       moveOf (getD steps n []) i .source ≡ Named (placeOf start (moveOf (getD steps n []) i .vm))
@@ -139,20 +140,21 @@ pub record SourcesUnread (room : Room) : Type 0 where
 -- ---- what holds at every moment of every run
 
 -- the auditor's first question, in every run. From one moment to the next a node never goes past its memory, nor past its CPU, if it was
--- within; so one that starts within is within at every moment; and a move begins only where it fits, so an overfull node takes none
+-- within; so one that starts within is within at every moment; and a move to a node begins only where it fits, so an overfull node takes
+-- none. This is of each node of the room
 pub record StaysWithin (room : Room) (places : Placement) (steps : List Step) : Type 0 where
-  pub memory : (last : Placement) (run : Run room places steps last) (d : ℕ) →
+  pub memory : (last : Placement) (run : Run room places steps last) (d : ℕ) → d < length (room .nodes) →
       tallyAt room d (atRest room places) .memory ≤ nodeOf room d .memory →
       EachMomentOfRun (λ cs. tallyAt room d cs .memory ≤ nodeOf room d .memory) run
-  pub cpu : (last : Placement) (run : Run room places steps last) (d : ℕ) →
+  pub cpu : (last : Placement) (run : Run room places steps last) (d : ℕ) → d < length (room .nodes) →
       tallyAt room d (atRest room places) .cpu ≤ nodeOf room d .cpu →
       EachMomentOfRun (λ cs. tallyAt room d cs .cpu ≤ nodeOf room d .cpu) run
-  pub memory-stays : (last : Placement) (run : Run room places steps last) (d : ℕ) →
+  pub memory-stays : (last : Placement) (run : Run room places steps last) (d : ℕ) → d < length (room .nodes) →
       EachChangeOfRun (λ cs ds. tallyAt room d cs .memory ≤ nodeOf room d .memory → tallyAt room d ds .memory ≤ nodeOf room d .memory) run
-  pub cpu-stays : (last : Placement) (run : Run room places steps last) (d : ℕ) →
+  pub cpu-stays : (last : Placement) (run : Run room places steps last) (d : ℕ) → d < length (room .nodes) →
       EachChangeOfRun (λ cs ds. tallyAt room d cs .cpu ≤ nodeOf room d .cpu → tallyAt room d ds .cpu ≤ nodeOf room d .cpu) run
   pub arrivals : (last : Placement) (run : Run room places steps last) →
-      EachBeginOfRun (λ cs v d. (fits room cs v d ≡ true) × (within (nodeOf room d) (tallyAt room d cs) ≡ true)) run
+      EachBeginOfRun (λ cs v d. d < length (room .nodes) → (fits room cs v d ≡ true) × (within (nodeOf room d) (tallyAt room d cs) ≡ true)) run
 
 -- spreads, in every run. From one moment to the next two mates that share no node never come to share one, a running VM counting on both of
 -- its nodes; so mates that are apart at the start are apart at every moment
@@ -161,6 +163,23 @@ pub record StaysApart (room : Room) (places : Placement) (steps : List Step) : T
       EachChangeOfRun (λ cs ds. Apart v w cs → Apart v w ds) run
   pub apart : (last : Placement) (run : Run room places steps last) (v w : ℕ) → mates room v w ≡ true →
       Apart v w (atRest room places) → EachMomentOfRun (Apart v w) run
+
+-- VMs that are to go on, in every run (02, Job 2). From one moment to the next a VM that is wanted on a node and counts on a node of the room
+-- still counts on one: once it is up it is never down again. So one that starts on a node counts on one at every moment
+pub record KeepsRunning (room : Room) (places : Placement) (steps : List Step) : Type 0 where
+  pub stays : (last : Placement) (run : Run room places steps last) (v : ℕ) → placeOf (targetOf room) v < length (room .nodes) →
+      EachChangeOfRun (λ cs ds. (d : ℕ) × (d < length (room .nodes)) × (standsOn cs v d ≡ true) →
+      (d : ℕ) × (d < length (room .nodes)) × (standsOn ds v d ≡ true)) run
+  pub on : (last : Placement) (run : Run room places steps last) (v : ℕ) → v < length (room .vms) →
+      placeOf places v < length (room .nodes) → placeOf (targetOf room) v < length (room .nodes) →
+      EachMomentOfRun (λ cs. (d : ℕ) × (d < length (room .nodes)) × (standsOn cs v d ≡ true)) run
+
+-- version 1 of the cluster record knows no `nowhere` (02, Job 2). Every VM is on a node and is wanted on one, and a step that sends one to no
+-- node has fault 15 at any placement
+pub record NothingDown (room : Room) : Type 0 where
+  pub currents : (v : ℕ) → v < length (room .vms) → placeOf (currentOf room) v < length (room .nodes)
+  pub targets : (v : ℕ) → v < length (room .vms) → placeOf (targetOf room) v < length (room .nodes)
+  pub no-shutdown : (places : Placement) (step : Step) (i : ℕ) → i < length step → moveOf step i .to ≡ nowhere → named room places 0 step ≡ false
 
 -- ---- the promises
 
@@ -199,7 +218,10 @@ pub record Checked (cluster plan : List ℕ) (r : ℕ) : Type 0 where
   -- no run of it takes a node past what it has, or brings mates together
   pub auditor : SaysGood r → StaysWithin (roomOf cluster) (currentOf (roomOf cluster)) (stepsOf plan)
   pub apart : SaysGood r → StaysApart (roomOf cluster) (currentOf (roomOf cluster)) (stepsOf plan)
-  -- an accepted plan of version 2 names for every move the node that its VM is on when the step starts; nothing but 27 looks at a source; a
+  -- nor takes a VM down that is wanted on a node; in a cluster of version 1 nobody is down or is to be, and a shutdown is 15 (02, Job 2)
+  pub running : SaysGood r → KeepsRunning (roomOf cluster) (currentOf (roomOf cluster)) (stepsOf plan)
+  pub version-1 : clusterCheck cluster ≡ ClusterCheck.Whole → versionOf cluster ≡ 1 → NothingDown (roomOf cluster)
+  -- an accepted plan of version 2 names for every move the place of its VM when the step starts; nothing but 27 looks at a source; a
   -- plan that is not of version 2 has no step with 27 (02, Job 7)
   pub sources : SaysGood r → versionOf plan ≡ 2 → NamesPlaces (roomOf cluster) (currentOf (roomOf cluster)) (stepsOf plan)
   pub unread : SourcesUnread (roomOf cluster)

@@ -1,15 +1,16 @@
--- Which destinations are allowed, what the target owes, and the faults of a step (01, "Numbers of the refusals", 8, 9, 15 to 18; 02, Job 7, 27).
+-- Which destinations are allowed, what the target owes, and the faults of a step (01, "Numbers of the refusals", 8, 9, 15 to 18; 02, Job 2, and
+-- Job 7, 27).
 use Prim.Native.Nat.{ℕ, zero, suc}
 use mathlib.Core.Bool.{Bool, true, false, not, _&&_, _||_}
 use mathlib.Core.List.{List, [], _∷_}
 use lib.ListN.{length}
 use lib.Dec.{ltb, leb, eqb}
 use Rattle.records.specs.Base.{pick, all}
-use Rattle.records.specs.Room.{Constraint, ban, fence, spread, latency, has, vmsOf, Room, nodeOf, vmOf}
+use Rattle.records.specs.Room.{Constraint, ban, fence, spread, latency, has, vmsOf, Room, nodeOf, nowhere, onNode}
 use Rattle.records.specs.Plan.{Move, Step}
 use Rattle.records.specs.declared.plan.Source.{Source}
 use Rattle.records.specs.declared.plan.Source.the-variants.{Unnamed, Named}
-use Rattle.rules.specs.Moments.{Placement, placeOf, targetOf, Moment, within, tallyAt, firstMoment, atRest, allRunning}
+use Rattle.rules.specs.Moments.{Placement, placeOf, targetOf, within, bears, tallyAt, firstMoment, atRest, allRunning}
 use Rattle.rules.specs.Orders.{some, meetsMate}
 use Rattle.rules.specs.declared.faults.TargetFault.{TargetFault}
 use Rattle.rules.specs.declared.faults.TargetFault.the-variants.{Overfull, Broken}
@@ -29,9 +30,9 @@ keepsFrom (fence vms nodes) d = not (has nodes d)
 keepsFrom (spread vms) d = false
 keepsFrom (latency vms groups) d = false
 
--- VM v may go to node d: no constraint that names v keeps it from d
+-- VM v may go to d: d is no node, or no constraint that names v keeps it from d
 unfoldable pub allowed : Room → ℕ → ℕ → Bool
-allowed room v d = all (λ k. not (has (vmsOf k) v && keepsFrom k d)) (room .constraints)
+allowed room v d = pick (onNode d) (all (λ k. not (has (vmsOf k) v && keepsFrom k d)) (room .constraints)) true
 
 -- ---- the target
 
@@ -49,12 +50,18 @@ unfoldable pub spreadOut : Placement → List ℕ → Bool
 spreadOut places [] = true
 spreadOut places (v ∷ vs) = all (λ w. not (eqb (placeOf places v) (placeOf places w))) vs && spreadOut places vs
 
--- 9: a placement keeps a constraint
+-- those of the VMs that are on a node
+unfoldable pub onNodes : Placement → List ℕ → List ℕ
+onNodes places [] = []
+onNodes places (v ∷ vs) = pick (onNode (placeOf places v)) (v ∷ onNodes places vs) (onNodes places vs)
+
+-- 9: a placement keeps a constraint. Its list is read without the VMs on no node, of which nothing is asked (02, Job 2)
 unfoldable pub keeps : Placement → Constraint → Bool
-keeps places (ban vms nodes) = all (λ v. not (has nodes (placeOf places v))) vms
-keeps places (fence vms nodes) = all (λ v. has nodes (placeOf places v)) vms
-keeps places (spread vms) = spreadOut places vms
-keeps places (latency vms groups) = eqb (length vms) 0 || some (λ g. all (λ v. has g (placeOf places v)) vms) groups
+keeps places (ban vms nodes) = all (λ v. not (has nodes (placeOf places v))) (onNodes places vms)
+keeps places (fence vms nodes) = all (λ v. has nodes (placeOf places v)) (onNodes places vms)
+keeps places (spread vms) = spreadOut places (onNodes places vms)
+keeps places (latency vms groups) =
+    eqb (length (onNodes places vms)) 0 || some (λ g. all (λ v. has g (placeOf places v)) (onNodes places vms)) groups
 
 -- the target's fault
 unfoldable pub targetCheck : Room → TargetCheck
@@ -65,17 +72,22 @@ targetCheck room =
 
 -- ---- a step
 
--- 15: each VM is there and above the one before it (`least` is the least that may come), each destination is there and not its VM's place
+-- VM v can be sent to d: a node that there is, or no node if that is where the VM is wanted (02, Job 2)
+unfoldable pub aims : Room → ℕ → ℕ → Bool
+aims room v d = ltb d (length (room .nodes)) || (eqb d nowhere && eqb (placeOf (targetOf room) v) nowhere)
+
+-- 15: each VM is there and above the one before it (`least` is the least that may come), each destination is one it can be sent to and not
+-- its place
 unfoldable pub named : Room → Placement → ℕ → Step → Bool
 named room places least [] = true
 named room places least (move ∷ moves) =
     (leb least (move .vm) && ltb (move .vm) (length (room .vms))) &&
-    ((ltb (move .to) (length (room .nodes)) && not (eqb (move .to) (placeOf places (move .vm)))) && named room places (suc (move .vm)) moves)
+    ((aims room (move .vm) (move .to) && not (eqb (move .to) (placeOf places (move .vm)))) && named room places (suc (move .vm)) moves)
 
 -- 27: every source that is named is its VM's place at the step's start
 unfoldable pub isPlace : Source → ℕ → Bool
 isPlace Unnamed place = true
-isPlace (Named node) place = eqb node place
+isPlace (Named source) place = eqb source place
 
 unfoldable pub sourced : Placement → Step → Bool
 sourced places step = all (λ move. isPlace (move .source) (placeOf places (move .vm))) step
@@ -84,11 +96,11 @@ sourced places step = all (λ move. isPlace (move .source) (placeOf places (move
 unfoldable pub permitted : Room → Step → Bool
 permitted room step = all (λ move. allowed room (move .vm) (move .to)) step
 
--- 17, as it is decided: with every move running, the tally of each destination is within what the node has. (Promises says what it
--- means, over every order, and that the two agree.)
+-- 17, as it is decided: with every move running, each destination bears its tally. (Promises says what it means, over every order, and that
+-- the two agree.)
 unfoldable pub fitting : Room → Placement → Step → Bool
 fitting room places step =
-    all (λ move. within (nodeOf room (move .to)) (tallyAt room (move .to) (allRunning (firstMoment room places step)))) step
+    all (λ move. bears room (move .to) (tallyAt room (move .to) (allRunning (firstMoment room places step)))) step
 
 -- 18, as it is decided: with every move running, no mate of a moved VM counts on its destination
 unfoldable pub unmet : Room → Placement → Step → Bool

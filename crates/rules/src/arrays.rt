@@ -6,22 +6,21 @@ pub const VMS: usize = 256;
 
 pub const NODES: usize = 64;
 
-// Where each VM is.
+// Where each VM is: a node, or NOWHERE.
 pub type Placement = [u8; VMS];
 
-// Where each VM goes in a step, or NO_MOVE.
+// Where each VM goes in a step: a node, NOWHERE or NO_MOVE.
 pub type Destinations = [u8; VMS];
 
 // One past the last node there can be.
 pub const NO_MOVE: u8 = 64;
 
-// A sum for each node, and one for NO_MOVE.
-pub const SUMS: usize = 65;
+// As many as the values of a place or a destination. What stands at one that is no node means nothing.
+pub const PLACES: usize = 256;
 
-pub type Sums = [Tally; SUMS];
+pub type Sums = [Tally; PLACES];
 
-// A mark for each node and one for NO_MOVE.
-pub type Marks = [u8; SUMS];
+pub type Marks = [u8; PLACES];
 
 // A mark for each node of each VM: 1 where the VM may go.
 pub const ALLOWED: usize = 16384;

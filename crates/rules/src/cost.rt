@@ -4,11 +4,11 @@ ghost use mathlib.Core.Path.{_≡_};
 ghost use Prim.Native.Nat.{_+_, _*_, _≤_, _<_, _^_, max};
 ghost use lib.ListN.{length};
 ghost use Rattle.records.specs.Room.{roomOf, vmOf, clusterCheck};
-ghost use Rattle.records.specs.Plan.{stepAt, stepEnd, stepsFrom, stepsOf, moveTotal, planCheck};
+ghost use Rattle.records.specs.Plan.{moveOf, moveCount, stepAt, stepEnd, stepsFrom, stepsOf, moveTotal, planCheck};
 ghost use Rattle.records.specs.Inner.{Steps};
 ghost use Rattle.records.specs.declared.faults.ClusterCheck.{ClusterCheck};
 ghost use Rattle.records.specs.declared.faults.PlanCheck.{PlanCheck};
-ghost use Rattle.rules.specs.Cost.{stepCost, costFrom, costOf};
+ghost use Rattle.rules.specs.Cost.{memoryOf, stepCost, costFrom, costOf};
 ghost use Rattle.rules.specs.Inner.{movesCost};
 
 // The memory of VM v; 0 where there is none.
@@ -23,7 +23,18 @@ fn memory_of(cluster: &[u8], v: usize) -> u64
     }
 }
 
-// The largest memory that the step at a place moves.
+// The memory of move i of the step at a place: a shutdown has none.
+fn move_memory(cluster: &[u8], plan: &[u8], at: usize, i: usize) -> u64
+    requires { ⌜ (clusterCheck (now cluster) ≡ ClusterCheck.Whole) × (stepEnd (now plan) at ≤ length (now plan)) × (i < moveCount (now plan) at) ⌝ }
+    ensures { λ r. ⌜ (r ≡ memoryOf (roomOf (now (cluster .entry))) (moveOf (stepAt (now (plan .entry)) at) i)) × (r < 2 ^ 24) ⌝ }
+{
+    if records::move_to(plan, at, i) == records::NOWHERE {
+        return 0;
+    }
+    memory_of(cluster, records::move_vm(plan, at, i) as usize)
+}
+
+// The largest memory of the moves of the step at a place.
 fn step_max(cluster: &[u8], plan: &[u8], at: usize) -> u64
     requires { ⌜ (clusterCheck (now cluster) ≡ ClusterCheck.Whole) × (stepEnd (now plan) at ≤ length (now plan)) ⌝ }
     ensures { λ r. ⌜ (r ≡ stepCost (roomOf (now (cluster .entry))) (stepAt (now (plan .entry)) at)) × (r < 2 ^ 24) ⌝ }
@@ -32,10 +43,7 @@ fn step_max(cluster: &[u8], plan: &[u8], at: usize) -> u64
     let mut most: u64 = 0;
     while 0 < i {
         i -= 1;
-        most = larger(
-            memory_of(cluster, records::move_vm(plan, at, i) as usize),
-            most,
-        );
+        most = larger(move_memory(cluster, plan, at, i), most);
     }
     most
 }
@@ -55,7 +63,7 @@ fn step_sum(cluster: &[u8], plan: &[u8], at: usize, before: u64) -> u64
     let mut sum: u64 = 0;
     while 0 < i {
         i -= 1;
-        sum += memory_of(cluster, records::move_vm(plan, at, i) as usize) + before;
+        sum += move_memory(cluster, plan, at, i) + before;
     }
     sum
 }

@@ -48,8 +48,9 @@ pub use tally::within_node;
 pub use allow::allow_table;
 pub use places::current_places;
 pub use places::entry;
-pub use places::node_at;
+pub use places::place_at;
 pub use places::target_places;
+pub use places::wide;
 pub use wanted::at_home;
 pub use wanted::target_check;
 

@@ -74,14 +74,15 @@ pub fn destinations(plan: &[u8], at: usize) -> Destinations
 }
 
 // What an array of places or destinations says of VM v.
-pub fn node_at(a: &[u8; VMS], v: usize) -> usize
+pub fn place_at(a: &[u8; VMS], v: usize) -> usize
     requires { ⌜ v < 256 ⌝ }
     ensures { λ r. ⌜ (r ≡ getD (now (a .entry)) v 0) × (r < 256) ⌝ }
 {
     wide(a[v])
 }
 
-fn wide(x: u8) -> usize
+// A place or a destination as an index.
+pub fn wide(x: u8) -> usize
     ensures { λ r. ⌜ (r ≡ x) × (r < 256) ⌝ }
 {
     x as usize

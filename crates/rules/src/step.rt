@@ -2,28 +2,42 @@
 use crate::arrays::AllowTable;
 use crate::arrays::Destinations;
 use crate::arrays::NODES;
+use crate::arrays::PLACES;
 use crate::arrays::Placement;
-use crate::arrays::SUMS;
 use crate::arrays::Sums;
 use crate::faults::StepCheck;
 use crate::faults::StepFault;
 use crate::places::destinations;
-use crate::places::node_at;
+use crate::places::place_at;
 use crate::spread::mates_unmet;
 use crate::tally::Tally;
 use crate::tally::need_of;
 use crate::tally::within_node;
 use records::Source;
 ghost use mathlib.Core.Path.{_≡_};
-ghost use Prim.Native.Nat.{_≤_};
+ghost use Prim.Native.Nat.{_≤_, _<_};
 ghost use lib.ListN.{length};
-ghost use Rattle.records.specs.Room.{roomOf, clusterCheck};
+ghost use Rattle.records.specs.Room.{roomOf, nodeCount, vmCount, clusterCheck};
 ghost use Rattle.records.specs.Plan.{stepAt, stepEnd};
 ghost use Rattle.records.specs.declared.faults.ClusterCheck.{ClusterCheck};
-ghost use Rattle.rules.specs.Rules.{named, isPlace, sourced, permitted, stepCheck};
+ghost use Rattle.rules.specs.Rules.{aims, named, isPlace, sourced, permitted, stepCheck};
 ghost use Rattle.rules.specs.Inner.{Held, Placed, runningCheck, held, Ready, Loads, Aimed, Allows, fitsIn};
 
-// 15: whether each VM and destination is there, the VMs rise, and no destination is its VM's place.
+// Whether VM v can be sent to d: to a node, or to no node if it is wanted there.
+fn can_send(cluster: &[u8], nodes: usize, v: usize, d: u8) -> bool
+    requires { ⌜ (clusterCheck (now cluster) ≡ ClusterCheck.Whole) × (v < vmCount (now cluster)) × (nodes ≡ nodeCount (now cluster)) ⌝ }
+    ensures { λ r. ⌜ r ≡ aims (roomOf (now (cluster .entry))) v d ⌝ }
+{
+    if (d as usize) < nodes {
+        return true;
+    }
+    if d != records::NOWHERE {
+        return false;
+    }
+    records::vm_target(cluster, v) == records::NOWHERE
+}
+
+// 15: whether each VM is there, the VMs rise, each can be sent to its destination, and no destination is its VM's place.
 pub fn well_named(cluster: &[u8], plan: &[u8], at: usize, places: &Placement) -> bool
     requires { ⌜ (clusterCheck (now cluster) ≡ ClusterCheck.Whole) × (stepEnd (now plan) at ≤ length (now plan)) ⌝ }
     ensures { λ r. ⌜ r ≡ named (roomOf (now (cluster .entry))) (held (now (cluster .entry)) (now (places .entry))) 0 (stepAt (now (plan .entry)) at) ⌝ }
@@ -41,12 +55,12 @@ pub fn well_named(cluster: &[u8], plan: &[u8], at: usize, places: &Placement) ->
         if vms <= v {
             return false;
         }
-        let d = records::move_to(plan, at, i) as usize;
-        if nodes <= d {
+        let d = records::move_to(plan, at, i);
+        if !can_send(cluster, nodes, v, d) {
             return false;
         }
-        let place = node_at(places, v);
-        if d == place {
+        let place = place_at(places, v);
+        if d as usize == place {
             return false;
         }
         least = v + 1;
@@ -61,7 +75,7 @@ fn is_place(source: Source, place: u8) -> bool
 {
     match source {
         Source::Unnamed => true,
-        Source::Named(node) => node == place,
+        Source::Named(named) => named == place,
     }
 }
 
@@ -83,29 +97,28 @@ pub fn well_sourced(plan: &[u8], at: usize, places: &Placement) -> bool
     true
 }
 
-// The tally of each node with every move running. A VM without a move counts on NO_MOVE too, whose sum is emptied at the end.
+// The tally of each node with every move running.
 pub fn loads(cluster: &[u8], places: &Placement, dests: &Destinations) -> Sums
     requires { ⌜ (clusterCheck (now cluster) ≡ ClusterCheck.Whole) × Ready (now cluster) (now places) (now dests) ⌝ }
     ensures { λ r. ⌜ Loads (now (cluster .entry)) (now (places .entry)) (now (dests .entry)) r ⌝ }
 {
-    let mut sums = [Tally::EMPTY; SUMS];
+    let mut sums = [Tally::EMPTY; PLACES];
     let mut left = records::vm_count(cluster);
     while 0 < left {
         let v = left - 1;
         let vm = need_of(cluster, v);
-        let d = node_at(dests, v);
+        let d = place_at(dests, v);
         let there = sums[d];
         sums[d] = there.with(vm);
-        let p = node_at(places, v);
+        let p = place_at(places, v);
         let here = sums[p];
         sums[p] = here.with(vm);
         left = v;
     }
-    sums[NODES] = Tally::EMPTY;
     sums
 }
 
-// 17: whether the tally of each destination, with every move running, is within what the node has.
+// 17: whether the tally of each node that is a destination, with every move running, is within what the node has.
 pub fn fits_running(cluster: &[u8], plan: &[u8], at: usize, sums: Sums) -> bool
     requires { ⌜ (clusterCheck (now cluster) ≡ ClusterCheck.Whole) × (stepEnd (now plan) at ≤ length (now plan)) × Aimed (now cluster) (stepAt (now plan) at) ⌝ }
     ensures { λ r. ⌜ r ≡ fitsIn (roomOf (now (cluster .entry))) sums (stepAt (now (plan .entry)) at) ⌝ }
@@ -114,16 +127,18 @@ pub fn fits_running(cluster: &[u8], plan: &[u8], at: usize, sums: Sums) -> bool
     let mut i: usize = 0;
     while i < n {
         let d = records::move_to(plan, at, i) as usize;
-        let t = sums[d];
-        if !within_node(cluster, d, t) {
-            return false;
+        if d < NODES {
+            let t = sums[d];
+            if !within_node(cluster, d, t) {
+                return false;
+            }
         }
         i += 1;
     }
     true
 }
 
-// 16: whether the table allows each move.
+// 16: whether the table allows each move to a node.
 pub fn moves_allowed(cluster: &[u8], plan: &[u8], at: usize, table: &AllowTable) -> bool
     requires { ⌜ (clusterCheck (now cluster) ≡ ClusterCheck.Whole) × (stepEnd (now plan) at ≤ length (now plan)) × Aimed (now cluster) (stepAt (now plan) at) × Allows (now cluster) (now table) ⌝ }
     ensures { λ r. ⌜ r ≡ permitted (roomOf (now (cluster .entry))) (stepAt (now (plan .entry)) at) ⌝ }
@@ -133,8 +148,10 @@ pub fn moves_allowed(cluster: &[u8], plan: &[u8], at: usize, table: &AllowTable)
     while i < n {
         let v = records::move_vm(plan, at, i) as usize;
         let d = records::move_to(plan, at, i) as usize;
-        if table[v * NODES + d] == 0 {
-            return false;
+        if d < NODES {
+            if table[v * NODES + d] == 0 {
+                return false;
+            }
         }
         i += 1;
     }

@@ -2,14 +2,14 @@
 use crate::allow::stops;
 use crate::arrays::NO_MOVE;
 use crate::arrays::NODES;
+use crate::arrays::PLACES;
 use crate::arrays::Placement;
-use crate::arrays::SUMS;
 use crate::arrays::Sums;
 use crate::arrays::VMS;
 use crate::faults::TargetCheck;
 use crate::faults::TargetFault;
 use crate::places::entry;
-use crate::places::node_at;
+use crate::places::place_at;
 use crate::places::target_places;
 use crate::spread::arrive_apart;
 use crate::step::loads;
@@ -25,7 +25,7 @@ ghost use Rattle.records.specs.declared.faults.ClusterCheck.{ClusterCheck};
 ghost use Rattle.rules.specs.Orders.{some};
 ghost use Rattle.rules.specs.Rules.{fitsAll, targetCheck};
 ghost use Rattle.rules.specs.Verdict.{home};
-ghost use Rattle.rules.specs.Inner.{held, Placed, Low, Formed, fitsUpTo, clearOf, groupHolds, keepsIn};
+ghost use Rattle.rules.specs.Inner.{held, Formed, fitsUpTo, clearOf, groupHolds, keepsIn};
 
 // Whether the tally of every node is within what it has.
 fn all_fit(cluster: &[u8], sums: Sums) -> bool
@@ -46,7 +46,7 @@ fn all_fit(cluster: &[u8], sums: Sums) -> bool
 
 // 8: whether all VMs at rest on their places fit.
 fn places_fit(cluster: &[u8], places: &Placement) -> bool
-    requires { ⌜ (clusterCheck (now cluster) ≡ ClusterCheck.Whole) × Placed (now cluster) (now places) ⌝ }
+    requires { ⌜ clusterCheck (now cluster) ≡ ClusterCheck.Whole ⌝ }
     ensures { λ r. ⌜ r ≡ fitsAll (roomOf (now (cluster .entry))) (held (now (cluster .entry)) (now (places .entry))) ⌝ }
 {
     let dests = [NO_MOVE; VMS];
@@ -55,24 +55,25 @@ fn places_fit(cluster: &[u8], places: &Placement) -> bool
 }
 
 // Whether none of the VMs is on a stopped node.
-fn list_clear(vms: &[u8], stop: &[u8; NODES], places: &Placement) -> bool
-    requires { ⌜ Low (now places) ⌝ }
+pub fn list_clear(vms: &[u8], stop: &[u8; NODES], places: &Placement) -> bool
     ensures { λ r. ⌜ r ≡ clearOf (now (stop .entry)) (now (places .entry)) (now (vms .entry)) ⌝ }
 {
     let mut i: usize = 0;
     while i < vms.len() {
-        let p = node_at(places, entry(vms, i));
-        if stop[p] != 0 {
-            return false;
+        let p = place_at(places, entry(vms, i));
+        if p < NODES {
+            if stop[p] != 0 {
+                return false;
+            }
         }
         i += 1;
     }
     true
 }
 
-// Whether some group of a latency constraint has all the VMs.
+// Whether some group of a latency constraint has all the VMs that are on a node.
 fn groups_hold(p: &[u8], vms: &[u8], places: &Placement) -> bool
-    requires { ⌜ Formed (now p) × (kindOf (constraintOf (now p)) ≡ Kind.Latency) × Low (now places) ⌝ }
+    requires { ⌜ Formed (now p) × (kindOf (constraintOf (now p)) ≡ Kind.Latency) ⌝ }
     ensures { λ r. ⌜ r ≡ some (groupHolds (now (places .entry)) (now (vms .entry))) (groupsOf (constraintOf (now (p .entry)))) ⌝ }
 {
     let mut at = records::first_group(p);
@@ -91,7 +92,7 @@ fn groups_hold(p: &[u8], vms: &[u8], places: &Placement) -> bool
 
 // 9: whether the places keep a constraint.
 fn part_kept(p: &[u8], places: &Placement) -> bool
-    requires { ⌜ Formed (now p) × Low (now places) ⌝ }
+    requires { ⌜ Formed (now p) ⌝ }
     ensures { λ r. ⌜ r ≡ keepsIn (now (places .entry)) (constraintOf (now (p .entry))) ⌝ }
 {
     let vms = records::bound_vms(p);
@@ -105,9 +106,14 @@ fn part_kept(p: &[u8], places: &Placement) -> bool
             let stop = stops(records::named_nodes(p), 1, 0);
             list_clear(vms, &stop, places)
         }
-        Kind::Spread => arrive_apart(vms, [0u8; SUMS], places),
+        Kind::Spread => {
+            let mut marks = [0u8; PLACES];
+            arrive_apart(vms, &mut marks, places)
+        }
         Kind::Latency => {
-            if vms.len() == 0 {
+            // With every node stopped, the list is clear if none of its VMs is on a node.
+            let every = [1u8; NODES];
+            if list_clear(vms, &every, places) {
                 return true;
             }
             groups_hold(p, vms, places)
@@ -117,7 +123,7 @@ fn part_kept(p: &[u8], places: &Placement) -> bool
 
 // 9, of all constraints.
 fn all_kept(cluster: &[u8], places: &Placement) -> bool
-    requires { ⌜ (clusterCheck (now cluster) ≡ ClusterCheck.Whole) × Low (now places) ⌝ }
+    requires { ⌜ clusterCheck (now cluster) ≡ ClusterCheck.Whole ⌝ }
     ensures { λ r. ⌜ r ≡ all (keepsIn (now (places .entry))) (roomOf (now (cluster .entry)) .constraints) ⌝ }
 {
     let mut at = records::first_constraint(cluster);
@@ -156,7 +162,7 @@ pub fn at_home(cluster: &[u8], places: &Placement) -> bool
     let n = records::vm_count(cluster);
     let mut v: usize = 0;
     while v < n {
-        let p = node_at(places, v);
+        let p = place_at(places, v);
         let t = records::vm_target(cluster, v) as usize;
         if p != t {
             return false;

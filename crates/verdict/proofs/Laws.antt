@@ -9,8 +9,8 @@ use lib.Seq.{getD-take}
 use lib.Dec.{eqb}
 use borrow.Author.Tests.{ne-eqb}
 use Rattle.records.specs.Base.{all, sumOf}
-use Rattle.records.specs.Bytes.{byteAt, be16, be24, be32}
-use Rattle.records.specs.Plan.{stepCount, stepsFrom, stepsEnd, stepsOf, moveTotal, shaped, knownVersion, planCheck, longestPlan}
+use Rattle.records.specs.Bytes.{byteAt, be16, be24, be32, knownVersion}
+use Rattle.records.specs.Plan.{stepCount, stepsFrom, stepsEnd, stepsOf, moveTotal, shaped, planCheck, longestPlan}
 use Rattle.records.specs.declared.faults.PlanFault.the-variants.{Length, Shape}
 use Rattle.records.specs.declared.faults.PlanCheck.the-variants.{Damaged}
 use Rattle.records.proofs.Laws.Steps.{shape-most, plan-version, plan-length, plan-shape}

@@ -1,10 +1,14 @@
 //! A simple checker of the same rules in plain Rust, coded for speed measurements.
 //!
 //! It reads the lent bytes in place and keeps a mask of open nodes for each VM, a mask of VMs for
-//! each spread, and for each node its sums and a mask of the VMs on it.
+//! each spread, and for each node its sums and a mask of the VMs on it. Of VMs on no node nothing is
+//! kept but that they are.
 
 const ACCEPTED: u64 = 0;
 const REFUSED: u64 = 2 << 62;
+
+/// The place of a VM on no node.
+const NOWHERE: u8 = 255;
 
 /// A refusal's number and step.
 type Fault = (u8, u16);
@@ -21,9 +25,9 @@ fn verdict(cluster: &[u8], plan: &[u8]) -> Result<u64, Fault> {
     let room = read_room(cluster).map_err(|number| (number, 0))?;
     let shape = |number: u8| (number, 0);
     match plan.first() {
-        None => run::<2>(&room, plan),
-        Some(2) => run::<3>(&room, steps_of::<3>(plan).map_err(shape)?),
-        Some(_) => run::<2>(&room, steps_of::<2>(plan).map_err(shape)?),
+        None => run_any::<2>(&room, plan),
+        Some(2) => run_any::<3>(&room, steps_of::<3>(plan).map_err(shape)?),
+        Some(_) => run_any::<2>(&room, steps_of::<2>(plan).map_err(shape)?),
     }
 }
 
@@ -41,6 +45,8 @@ struct Room {
     target: [u8; 256],
     open: [u64; 256],
     spreads: Vec<VmMask>,
+    /// Whether the record may have VMs on no node.
+    down: bool,
 }
 
 /// A set of VMs, a bit each.
@@ -79,7 +85,7 @@ fn read_room(bytes: &[u8]) -> Result<Room, u8> {
     if bytes.len() < 11 {
         return Err(1);
     }
-    if bytes[0] != 1 {
+    if !(1..=2).contains(&bytes[0]) {
         return Err(2);
     }
     if stated_length(bytes) != bytes.len() || bytes.len() > 65_535 {
@@ -95,7 +101,7 @@ fn read_room(bytes: &[u8]) -> Result<Room, u8> {
     if !constraints_fill(constraints, c) {
         return Err(5);
     }
-    let mut room = empty_room(n, v);
+    let mut room = empty_room(n, v, bytes[0] == 2);
     read_nodes(&mut room, &bytes[11..vms_at]);
     read_vms(&mut room, &bytes[vms_at..constraints_at]).ok_or(6)?;
     let kept = read_constraints(&mut room, constraints).ok_or(7)?;
@@ -103,7 +109,7 @@ fn read_room(bytes: &[u8]) -> Result<Room, u8> {
     (kept && target_is_open(&room)).then_some(room).ok_or(9)
 }
 
-fn empty_room(n: usize, v: usize) -> Room {
+fn empty_room(n: usize, v: usize, down: bool) -> Room {
     Room {
         n,
         v,
@@ -115,6 +121,7 @@ fn empty_room(n: usize, v: usize) -> Room {
         target: [0; 256],
         open: [u64::MAX; 256],
         spreads: Vec::new(),
+        down,
     }
 }
 
@@ -138,13 +145,14 @@ fn read_nodes(room: &mut Room, rows: &[u8]) {
 
 /// Reads the VM rows; `None` is fault 6.
 fn read_vms(room: &mut Room, rows: &[u8]) -> Option<()> {
+    let (n, down) = (room.n, room.down);
+    let known = |place: u8| usize::from(place) < n || (down && place == NOWHERE);
     for (i, row) in rows.chunks_exact(7).enumerate() {
         room.memory[i] = be24(row);
         room.cpu[i] = be16(&row[3..]) as u64;
         room.current[i] = row[5];
         room.target[i] = row[6];
-        let known = usize::from(row[5]) < room.n && usize::from(row[6]) < room.n;
-        if room.memory[i] == 0 || !known {
+        if room.memory[i] == 0 || !known(row[5]) || !known(row[6]) {
             return None;
         }
     }
@@ -213,12 +221,18 @@ fn read_spread(room: &mut Room, vms: &[u8]) -> bool {
     if vms.len() > 1 {
         room.spreads.push(mask);
     }
-    targets(room, vms).count_ones() as usize == vms.len()
+    let on_nodes = vms.iter().filter(|&&vm| room.target[usize::from(vm)] != NOWHERE).count();
+    targets(room, vms).count_ones() as usize == on_nodes
 }
 
 /// The targets of some VMs, as a mask of nodes.
 fn targets(room: &Room, vms: &[u8]) -> u64 {
-    vms.iter().fold(0, |mask, &vm| mask | 1 << room.target[usize::from(vm)])
+    vms.iter().fold(0, |mask, &vm| mask | bit(room.target[usize::from(vm)]))
+}
+
+/// A node as a mask; that of no node is empty.
+fn bit(place: u8) -> u64 {
+    1u64.checked_shl(place.into()).unwrap_or(0)
 }
 
 /// Reads a latency's groups, and says whether one of them has all the targets.
@@ -229,7 +243,7 @@ fn latency_kept(room: &Room, vms: &[u8], rest: &mut &[u8]) -> Option<bool> {
         return None;
     }
     let targets = targets(room, vms);
-    let mut kept = vms.is_empty();
+    let mut kept = targets == 0;
     let mut taken = 0u64;
     for _ in 0..groups {
         let group = node_list(rest, room.n)?;
@@ -249,7 +263,7 @@ fn target_fits(room: &Room) -> Option<()> {
 
 /// Whether every VM's target is open to it: bans and fences.
 fn target_is_open(room: &Room) -> bool {
-    (0..room.v).all(|vm| room.open[vm] >> room.target[vm] & 1 == 1)
+    (0..room.v).all(|vm| bit(room.target[vm]) & !room.open[vm] == 0)
 }
 
 /// Memory and CPU counted on each node.
@@ -262,7 +276,9 @@ impl Sums {
     fn of(room: &Room, place: &[u8; 256]) -> Sums {
         let mut sums = Sums { memory: [0; 64], cpu: [0; 64] };
         for (vm, &node) in place[..room.v].iter().enumerate() {
-            sums.add(room, vm, node);
+            if node != NOWHERE {
+                sums.add(room, vm, node);
+            }
         }
         sums
     }
@@ -319,7 +335,9 @@ fn steps_fill<const WIDTH: usize>(mut rest: &[u8], steps: usize) -> bool {
 
 // ---------------------------------------------------------------- the steps
 
-/// Where VMs are between steps: each VM's node, and what is on each node.
+// DOWN is whether some VM may be on no node, so that rooms without any need not ask.
+
+/// Where VMs are between steps: each VM's place, and what is on each node.
 struct Here {
     place: [u8; 256],
     sums: Sums,
@@ -328,30 +346,40 @@ struct Here {
 
 fn start(room: &Room) -> Here {
     let mut vms_on = [VmMask::default(); 64];
-    for (vm, &node) in room.current[..room.v].iter().enumerate() {
-        put_in(&mut vms_on[usize::from(node)], vm as u8);
+    for (vm, &place) in room.current[..room.v].iter().enumerate() {
+        if place != NOWHERE {
+            put_in(&mut vms_on[usize::from(place)], vm as u8);
+        }
     }
     Here { place: room.current, sums: Sums::of(room, &room.current), vms_on }
 }
 
+fn run_any<const WIDTH: usize>(room: &Room, steps: &[u8]) -> Result<u64, Fault> {
+    if room.down {
+        return run::<WIDTH, true>(room, steps);
+    }
+    run::<WIDTH, false>(room, steps)
+}
+
 /// Goes through the steps; the cost, or the first fault.
-fn run<const WIDTH: usize>(room: &Room, mut rest: &[u8]) -> Result<u64, Fault> {
+fn run<const WIDTH: usize, const DOWN: bool>(room: &Room, mut rest: &[u8]) -> Result<u64, Fault> {
     let mut here = start(room);
     let (mut cost, mut earlier, mut step) = (0, 0, 0);
     while !rest.is_empty() {
         let (moves, behind) = rest[2..].split_at(WIDTH * be16(rest));
         rest = behind;
         step += 1;
-        let number = step_fault::<WIDTH>(room, &mut here, moves);
+        let number = step_fault::<WIDTH, DOWN>(room, &mut here, moves);
         if number != 0 {
             return Err((number, step));
         }
         let mut largest = 0;
         for m in moves.chunks_exact(WIDTH) {
-            let memory = room.memory[usize::from(m[0])];
+            let (vm, to) = (m[0], m[WIDTH - 1]);
+            let memory = if DOWN && to == NOWHERE { 0 } else { room.memory[usize::from(vm)] };
             cost += memory + earlier;
             largest = largest.max(memory);
-            end(room, &mut here, m[0], m[WIDTH - 1]);
+            end::<DOWN>(room, &mut here, vm, to);
         }
         earlier += largest;
     }
@@ -362,22 +390,29 @@ fn run<const WIDTH: usize>(room: &Room, mut rest: &[u8]) -> Result<u64, Fault> {
 }
 
 /// Ends a move: its VM leaves its source.
-fn end(room: &Room, here: &mut Here, vm: u8, to: u8) {
+fn end<const DOWN: bool>(room: &Room, here: &mut Here, vm: u8, to: u8) {
     let from = std::mem::replace(&mut here.place[usize::from(vm)], to);
-    here.sums.take(room, usize::from(vm), from);
-    take_out(&mut here.vms_on[usize::from(from)], vm);
+    if !DOWN || from != NOWHERE {
+        here.sums.take(room, usize::from(vm), from);
+        take_out(&mut here.vms_on[usize::from(from)], vm);
+    }
 }
 
 /// The fault of a step, or 0. Counts the arrivals on their destinations; those who leave are
 /// still on their sources.
-fn step_fault<const WIDTH: usize>(room: &Room, here: &mut Here, moves: &[u8]) -> u8 {
-    if !well_named::<WIDTH>(room, &here.place, moves) {
+fn step_fault<const WIDTH: usize, const DOWN: bool>(
+    room: &Room,
+    here: &mut Here,
+    moves: &[u8],
+) -> u8 {
+    if !well_named::<WIDTH, DOWN>(room, &here.place, moves) {
         return 15;
     }
     if !sources_right::<WIDTH>(&here.place, moves) {
         return 27;
     }
-    let each = || moves.chunks_exact(WIDTH).map(|m| (m[0], m[WIDTH - 1]));
+    let all = moves.chunks_exact(WIDTH).map(|m| (m[0], m[WIDTH - 1]));
+    let each = || all.clone().filter(|&(_, to)| !DOWN || to != NOWHERE);
     if !each().all(|(vm, to)| room.open[usize::from(vm)] >> to & 1 == 1) {
         return 16;
     }
@@ -391,11 +426,17 @@ fn step_fault<const WIDTH: usize>(room: &Room, here: &mut Here, moves: &[u8]) ->
     0
 }
 
-fn well_named<const WIDTH: usize>(room: &Room, place: &[u8; 256], moves: &[u8]) -> bool {
+fn well_named<const WIDTH: usize, const DOWN: bool>(
+    room: &Room,
+    place: &[u8; 256],
+    moves: &[u8],
+) -> bool {
     let mut least = 0;
+    let may_end = |vm: usize, to: u8| DOWN && to == NOWHERE && room.target[vm] == NOWHERE;
     for m in moves.chunks_exact(WIDTH) {
         let (vm, to) = (usize::from(m[0]), m[WIDTH - 1]);
-        if vm < least || vm >= room.v || usize::from(to) >= room.n || place[vm] == to {
+        let known = usize::from(to) < room.n || may_end(vm, to);
+        if vm < least || vm >= room.v || !known || place[vm] == to {
             return false;
         }
         least = vm + 1;

@@ -1,16 +1,18 @@
 //! Compares the library's planner with the model's, and has the library check what it built.
 
+use crate::launches::Launches;
 use crate::report::{hex, missing, outcome, print_counts, verdict_words};
 use crate::report::{Counts, Report, Stream, BLOCKED, COST, STRAY};
 use crate::{build, build_lent, check, Lent};
 use kobdrieft_model::gen::Rng;
 use kobdrieft_model::planner::BUFFER;
-use kobdrieft_model::{self as model, bare, parse_cluster, parse_plan, plan_bytes};
+use kobdrieft_model::{self as model, bare, parse_cluster, parse_plan, plan_bytes, Room, Step};
 
 /// The outcomes of `build`, and what the plans of generated inputs were like.
 #[derive(Default)]
 pub(crate) struct Builds {
     outcomes: Counts,
+    launches: Launches,
     pivoted: u64,
     most_pivots: usize,
     most_steps: usize,
@@ -21,10 +23,19 @@ impl Builds {
     fn count(&mut self, stream: Stream, cluster: &[u8], built: &Built) {
         let outcome = outcome(built.answer);
         self.outcomes[outcome][stream as usize] += 1;
-        if matches!(stream, Stream::HandSet) || built.is_refused() {
+        if outcome != 1 && cluster[0] == 2 {
+            self.launches.count(stream, outcome);
+        }
+        if built.is_refused() {
             return;
         }
-        let pivots = pivots(cluster, built.record());
+        let room = parse_cluster(cluster).expect("the model took it");
+        let steps = parse_plan(built.record()).expect("the model wrote it").steps;
+        self.launches.tell(stream, outcome == 0, &room, &steps);
+        if matches!(stream, Stream::HandSet) {
+            return;
+        }
+        let pivots = pivots(&room, &steps);
         self.most_pivots = self.most_pivots.max(pivots);
         self.most_steps = self.most_steps.max(built.steps());
         self.pivoted += u64::from(outcome == 0 && pivots > 0);
@@ -37,22 +48,22 @@ impl Builds {
         let more = [(self.pivoted, "a plan with a pivot"), (self.blocked_late, "blocked late")];
         missing
             .extend(more.iter().filter(|(count, _)| *count == 0).map(|(_, name)| name.to_string()));
+        missing.extend(self.launches.missing());
         missing
     }
 
     pub(crate) fn print(&self) {
         print_counts("build", &self.outcomes);
+        self.launches.print();
         println!("generated plans with a pivot: {}", self.pivoted);
         println!("generated answers blocked after some step: {}", self.blocked_late);
         println!("most steps in one: {}; most pivots: {}", self.most_steps, self.most_pivots);
     }
 }
 
-/// How many moves of a record go elsewhere than to their VM's target.
-fn pivots(cluster: &[u8], record: &[u8]) -> usize {
-    let room = parse_cluster(cluster).expect("the model took it");
-    let plan = parse_plan(record).expect("the model wrote it");
-    plan.steps.iter().flatten().filter(|m| m.to != room.vms[m.vm].target).count()
+/// How many moves of a plan go elsewhere than to their VM's target.
+fn pivots(room: &Room, steps: &[Step]) -> usize {
+    steps.iter().flatten().filter(|m| m.to != room.vms[m.vm].target).count()
 }
 
 /// The buffer's length for the next comparison. Every length below the least one that is taken

@@ -7,7 +7,7 @@
 use kobdrieft_model::edges::{self, cluster_a};
 use kobdrieft_model::gen::{MOST_CPU, MOST_MEMORY};
 use kobdrieft_model::{bare, cluster_bytes, named, plan_bytes};
-use kobdrieft_model::{Constraint, Move, Node, Plan, Room, Step, Vm};
+use kobdrieft_model::{Constraint, Move, Node, Plan, Room, Step, Version, Vm, NOWHERE};
 
 /// What an input is made for: `None` for accepted, else number and step.
 pub type Outcome = Option<(u8, u16)>;
@@ -45,6 +45,8 @@ pub fn all() -> Vec<Input> {
         wide_steps_too_full(),
         wide_steps_wrong_source(),
         wide_spreads(),
+        launches_and_shutdowns(),
+        wide_launches(),
         small_room(),
     ]
 }
@@ -137,7 +139,7 @@ pub(crate) fn full_room(
         let (current, target) = places(i);
         Vm { memory: 512 + (i as u64 * 37) % 4_096, cpu: 10 + i as u64 % 90, current, target }
     };
-    Room { nodes, vms: (0..VMS).map(vm).collect(), constraints }
+    Room { version: Version::One, nodes, vms: (0..VMS).map(vm).collect(), constraints }
 }
 
 fn all_vms() -> Vec<usize> {
@@ -260,6 +262,39 @@ pub fn wide_spreads() -> Input {
         |round: usize| (0..VMS).map(|vm| Move::bare(vm, vm % half + half * round)).collect();
     let steps = [1, 0, 1, 0].into_iter().map(there).collect();
     input("wide steps, spreads", (room, steps), None)
+}
+
+// ---------------------------------------------------------------- launches and shutdowns
+
+/// 512 steps of 2 moves, four for each VM of a room of version 2.
+pub fn launches_and_shutdowns() -> Input {
+    let step = |i: usize| {
+        let (round, vm) = (1 + i / 128, i % 128);
+        [vm, vm + 128].map(|vm| Move::bare(vm, comes_and_goes(vm, round))).to_vec()
+    };
+    let steps = (0..512).map(step).collect();
+    input("launches and shutdowns", (coming_and_going(), steps), None)
+}
+
+/// The same moves in 4 steps of 256.
+pub fn wide_launches() -> Input {
+    let step = |round| (0..VMS).map(|vm| Move::bare(vm, comes_and_goes(vm, round))).collect();
+    input("wide steps, launches", (coming_and_going(), (1..=4).map(step).collect()), None)
+}
+
+/// Where a VM is after so many of its moves. A quarter of the VMs is launched and shut down twice;
+/// the next is shut down, launched, moved and shut down; one is launched and moved three times; and
+/// one is on nodes all the time.
+fn comes_and_goes(vm: usize, round: usize) -> usize {
+    match (vm % 4, round) {
+        (0, 0 | 2 | 4) | (1, 1 | 4) | (2, 0) => NOWHERE,
+        _ => stop(vm, round, NODES),
+    }
+}
+
+fn coming_and_going() -> Room {
+    let places = |vm| (comes_and_goes(vm, 0), comes_and_goes(vm, 4));
+    Room { version: Version::Two, ..full_room(NODES, places, latencies(CONSTRAINTS)) }
 }
 
 // ---------------------------------------------------------------- the small room

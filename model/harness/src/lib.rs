@@ -7,6 +7,8 @@ pub mod baseline;
 pub mod builds;
 pub mod empties;
 pub mod inputs;
+pub mod launches;
+pub mod nowhere;
 pub mod report;
 pub mod rooms;
 pub mod sources;

@@ -1,6 +1,7 @@
 //! Compares the library with the model, input by input, and keeps count of the outcomes.
 use crate::builds::Builds;
 use crate::empties::Empties;
+use crate::nowhere::Nowhere;
 use crate::sources::Sources;
 use crate::{check, check_lent, Lent};
 use kobdrieft_model as model;
@@ -32,6 +33,7 @@ pub struct Report {
     pub failed: u64,
     checks: Counts,
     sources: Sources,
+    nowhere: Nowhere,
     pub(crate) empties: Empties,
     pub(crate) builds: Builds,
 }
@@ -42,6 +44,7 @@ impl Report {
         let expected = model::pack_verdict(model::check(cluster, plan));
         self.checks[outcome(expected)][stream as usize] += 1;
         self.sources.count(stream, cluster, plan, expected, origin);
+        self.nowhere.count(stream, cluster, plan, expected);
         if plan.is_empty() {
             self.empties.count_file(stream, expected);
         }
@@ -71,7 +74,8 @@ impl Report {
     pub fn expect_every_outcome(&mut self) {
         let checks = missing(&self.checks, "check", (0..=9).chain(11..=19).chain([27]));
         let (sources, empties) = (self.sources.missing(), self.empties.missing());
-        for name in [checks, sources, empties, self.builds.missing()].concat() {
+        let (nowhere, builds) = (self.nowhere.missing(), self.builds.missing());
+        for name in [checks, sources, nowhere, empties, builds].concat() {
             println!("never generated: {name}");
             self.failed += 1;
         }
@@ -82,6 +86,7 @@ impl Report {
         print_row("outcome", ["hand-set", "generated", "puzzles", "large"]);
         print_counts("check", &self.checks);
         self.sources.print();
+        self.nowhere.print();
         self.empties.print();
         self.builds.print();
         self.sources.print_origins();

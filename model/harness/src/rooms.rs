@@ -5,7 +5,7 @@ use crate::inputs::{full_room, latencies, spread_lists, CONSTRAINTS, HOMES, NODE
 use kobdrieft_model::edges::cluster_a;
 use kobdrieft_model::gen::swaps;
 use kobdrieft_model::rules::Placement;
-use kobdrieft_model::{cluster_bytes, Constraint, Node, Room, Vm};
+use kobdrieft_model::{cluster_bytes, Constraint, Node, Room, Version, Vm, NOWHERE};
 
 /// One room, with the answer it is made for.
 pub struct Task {
@@ -35,6 +35,8 @@ pub fn all() -> Vec<Task> {
         task("exchanges beside stuck", stuck(Node { memory: 0, cpu: 0 }), Ends::Blocked, 192),
         task("the same, nodes free", stuck(ROOMY), Ends::Blocked, 192),
         task("exchanges, mates around", mates_around(), Ends::Blocked, 102),
+        task("shutdowns, then launches", turnover(), Ends::Plan, 2),
+        task("relay from a launch", relay(), Ends::Plan, 64),
         task("cluster A", cluster_a(), Ends::Plan, 3),
     ]
 }
@@ -52,7 +54,8 @@ fn full_nodes(vm: impl Fn(usize) -> (usize, usize, u64), constraints: Vec<Constr
         Vm { memory, cpu: 1, current, target }
     };
     let nodes = vec![Node { memory: 0, cpu: 0 }; NODES];
-    let mut room = Room { nodes, vms: (0..VMS).map(vm).collect(), constraints };
+    let vms = (0..VMS).map(vm).collect();
+    let mut room = Room { version: Version::One, nodes, vms, constraints };
     let start = Placement::current(&room).sums;
     for (node, sum) in room.nodes.iter_mut().zip(start) {
         *node = Node { memory: sum.memory, cpu: 60_000 };
@@ -141,4 +144,25 @@ fn mates_around() -> Room {
     let mut room = full_nodes(|i| knotted(i, half, pairs), constraints);
     room.nodes[4..].fill(ROOMY);
     room
+}
+
+/// Two VMs on each node are shut down, and two are launched in their place.
+fn turnover() -> Room {
+    let place = |i: usize| match i < VMS / 2 {
+        true => (i % NODES, NOWHERE, 10),
+        false => (NOWHERE, i % NODES, 10),
+    };
+    Room { version: Version::Two, ..full_nodes(place, latencies(CONSTRAINTS)) }
+}
+
+/// Four VMs on each of 63 full nodes go to the next one; those of the last are shut down, and four
+/// are launched on the first.
+fn relay() -> Room {
+    let last = NODES - 2;
+    let place = |i: usize| match i % (last + 1) {
+        _ if i >= 4 * (last + 1) => (NOWHERE, 0, 10),
+        node if node == last => (node, NOWHERE, 10),
+        node => (node, node + 1, 10),
+    };
+    Room { version: Version::Two, ..full_nodes(place, latencies(CONSTRAINTS)) }
 }

@@ -66,21 +66,21 @@ impl Wrong {
     /// What the move names.
     fn names(&self) -> Named {
         match self.m.from {
-            Some(from) if from >= self.room.nodes.len() => Named::NoNode,
             Some(from) if from == self.m.to => Named::Destination,
             Some(from) if from == self.room.vms[self.m.vm].current => Named::Record,
+            Some(from) if from >= self.room.nodes.len() => Named::NoNode,
             _ => Named::Other,
         }
     }
 }
 
-/// What a wrong source is: no node, the move's destination, the node that the record has the VM on,
-/// or another.
+/// What a wrong source is: the move's destination, the place that the record has the VM at, no node
+/// of the cluster, or another node.
 #[derive(PartialEq)]
 enum Named {
-    NoNode,
     Destination,
     Record,
+    NoNode,
     Other,
 }
 
@@ -96,7 +96,7 @@ const TOLD: [Told; 11] = [
     ("27 before 18", |w| w.is_27() && w.unnamed == Some(18)),
     ("27, source no node", |w| w.is_27() && w.names() == Named::NoNode),
     ("27, source the destination", |w| w.is_27() && w.names() == Named::Destination),
-    ("27, source the record's node", |w| w.is_27() && w.names() == Named::Record),
+    ("27, source the record's place", |w| w.is_27() && w.names() == Named::Record),
     ("27, source another node", |w| w.is_27() && w.names() == Named::Other),
     ("15 before 27", |w| w.number == 15),
 ];

@@ -35,7 +35,7 @@ pub fn large(rng: &mut Rng) -> Large {
 /// Rooms that take many steps, or many moves a step.
 fn large_room(rng: &mut Rng) -> Room {
     let size = rng.pick(&[Size::Medium, Size::Large, Size::Large]);
-    match rng.below(8) {
+    match rng.below(9) {
         0 => gen::swaps(rng.range(20, 128)),
         1 | 2 => {
             let n = rng.range(20, 64);
@@ -43,6 +43,10 @@ fn large_room(rng: &mut Rng) -> Room {
         }
         3 | 4 => gen::knot(rng, size),
         5 => gen::apart(rng, size),
+        6 => {
+            let n = rng.range(20, 64);
+            gen::relay(rng, n)
+        }
         _ => gen::room(rng, size),
     }
 }
@@ -69,7 +73,8 @@ fn there_and_back(rng: &mut Rng, room: &Room, book: &Book, here: &Placement) -> 
     if room.vms.is_empty() {
         return None;
     }
-    let (vm, to) = (rng.below(room.vms.len()), rng.below(room.nodes.len()));
+    let vm = rng.below(room.vms.len());
+    let to = gen::some_place(rng, room, vm);
     let (there, back) = (vec![Move::bare(vm, to)], vec![Move::bare(vm, here.place[vm])]);
     let sound = step_fault(room, book, here, &there).is_none();
     let returns = sound && step_fault(room, book, &here.after(room, &there), &back).is_none();

@@ -1,7 +1,8 @@
 //! What refuses a step, for the faults 27 and 16 to 18: what to mark in its frame, and why.
 
+use super::words::place_words;
 use crate::form::{constraint_line, number_list, NODES};
-use crate::records::{Move, Room};
+use crate::records::{on_a_node, Move, Room};
 use crate::rules::{allows, mates, within, Placement, Sum};
 
 /// More reasons than this are only counted; all are marked.
@@ -10,16 +11,16 @@ const MOST_TOLD: usize = 3;
 /// More begins than this are listed in short.
 const MOST_BEGINS: usize = 6;
 
-/// The node that refuses, if it is there; the blocks to mark, as node and VM; and the reason in
+/// The place that refuses, if it is there; the blocks to mark, as place and VM; and the reason in
 /// words.
 #[derive(Clone, Debug)]
 struct Culprit {
-    node: Option<usize>,
+    place: Option<usize>,
     blocks: Vec<(usize, usize)>,
     why: String,
 }
 
-/// All that refuses a step, and the word that stands at its nodes.
+/// All that refuses a step, and the word that stands at its places.
 #[derive(Clone, Debug, Default)]
 pub struct Blame {
     pub word: &'static str,
@@ -38,12 +39,12 @@ impl Blame {
         Blame { word, culprits }
     }
 
-    pub fn has_node(&self, node: usize) -> bool {
-        self.culprits.iter().any(|culprit| culprit.node == Some(node))
+    pub fn has_place(&self, place: usize) -> bool {
+        self.culprits.iter().any(|culprit| culprit.place == Some(place))
     }
 
-    pub fn has_vm(&self, node: usize, vm: usize) -> bool {
-        self.culprits.iter().any(|culprit| culprit.blocks.contains(&(node, vm)))
+    pub fn has_vm(&self, place: usize, vm: usize) -> bool {
+        self.culprits.iter().any(|culprit| culprit.blocks.contains(&(place, vm)))
     }
 
     pub fn notes(&self) -> Vec<String> {
@@ -53,27 +54,32 @@ impl Blame {
     }
 }
 
-/// Fault 27: the node that a move names as its source, and the VM where it really is.
+/// Fault 27: the place that a move names as its source, and the VM where it really is.
 fn misplaced(room: &Room, here: &Placement, Move { vm, from, to }: Move) -> Option<Culprit> {
     let place = here.place[vm];
     let from = from.filter(|&from| from != place)?;
-    let node = Some(from).filter(|&from| from < room.nodes.len());
-    let more = match node {
-        Some(_) => String::new(),
-        None => format!("; {}", NODES.missing(from as u64, room.nodes.len())),
+    let there = from < room.nodes.len() || !on_a_node(from);
+    let more = match there {
+        true => String::new(),
+        false => format!("; {}", NODES.missing(from as u64, room.nodes.len())),
     };
+    let what = match on_a_node(to) {
+        true => format!("move of VM {vm} to node {to}"),
+        false => format!("shutdown of VM {vm}"),
+    };
+    let (named, found) = (place_words(from), place_words(place));
     let why = format!(
-        "The move of VM {vm} to node {to} names node {from} as its source, but VM {vm} is on node \
-         {place} when the step starts{more}."
+        "The {what} names {named} as its source, but VM {vm} is on {found} when the step \
+         starts{more}."
     );
-    Some(Culprit { node, blocks: vec![(place, vm)], why })
+    Some(Culprit { place: there.then_some(from), blocks: vec![(place, vm)], why })
 }
 
 /// Fault 16: the ban or fence that keeps a move from its destination.
 fn forbidden(room: &Room, Move { vm, to, .. }: Move) -> Option<Culprit> {
     let rule = room.constraints.iter().find(|constraint| !allows(constraint, vm, to))?;
     let why = format!("VM {vm} may not go to node {to}: {}.", constraint_line(rule));
-    Some(Culprit { node: Some(to), blocks: vec![(to, vm)], why })
+    Some(Culprit { place: Some(to), blocks: vec![(to, vm)], why })
 }
 
 /// Fault 17: each node that some order fills past its capacity.
@@ -89,11 +95,11 @@ fn misfit(room: &Room, here: &Placement, step: &[Move], node: usize) -> Option<C
         sum = sum.plus(&room.vms[m.vm]);
         begun.push(m.vm);
         if !within(room, node, sum) {
-            let leavers: Vec<usize> =
-                step.iter().map(|m| m.vm).filter(|&vm| here.place[vm] == node).collect();
+            let leavers: Vec<Move> =
+                step.iter().copied().filter(|m| here.place[m.vm] == node).collect();
             let what = format!("{}{}", excess(room, node, sum), still_there(&leavers));
             let why = order(&begun, node, &what);
-            return Some(Culprit { node: Some(node), blocks: vec![], why });
+            return Some(Culprit { place: Some(node), blocks: vec![], why });
         }
     }
     None
@@ -113,6 +119,9 @@ fn excess(room: &Room, node: usize, sum: Sum) -> String {
 /// arrive there too, each pair once.
 fn meets(room: &Room, here: &Placement, step: &[Move], m: Move) -> Vec<Culprit> {
     let Move { vm, to, .. } = m;
+    if !on_a_node(to) {
+        return vec![];
+    }
     let meet = |mate: usize| {
         let moves = step.iter().find(|m| m.vm == mate);
         let arrives = moves.is_some_and(|m| m.to == to) && mate < vm;
@@ -121,11 +130,11 @@ fn meets(room: &Room, here: &Placement, step: &[Move], m: Move) -> Vec<Culprit> 
             false if arrives => vec![mate, vm],
             false => return None,
         };
-        let leavers: Vec<usize> =
-            moves.iter().map(|m| m.vm).filter(|&mate| here.place[mate] == to).collect();
+        let leavers: Vec<Move> =
+            moves.into_iter().copied().filter(|_| here.place[mate] == to).collect();
         let what = format!("VMs {vm} and {mate}, spread mates{}", still_there(&leavers));
         let blocks = vec![(to, vm), (to, mate)];
-        Some(Culprit { node: Some(to), blocks, why: order(&begun, to, &what) })
+        Some(Culprit { place: Some(to), blocks, why: order(&begun, to, &what) })
     };
     mates(room, vm).into_iter().filter_map(meet).collect()
 }
@@ -141,11 +150,17 @@ fn order(begun: &[usize], node: usize, what: &str) -> String {
     format!("An order that fails: {begins}: node {node} would have {what}.")
 }
 
-/// A remark on VMs that leave a node in the same step.
-fn still_there(leavers: &[usize]) -> String {
+/// A remark on moves that leave a node in the same step.
+fn still_there(leavers: &[Move]) -> String {
     match leavers {
         [] => String::new(),
-        [vm] => format!(" (VM {vm} counts there until its move ends)"),
-        vms => format!(" (VMs {} count there until their moves end)", number_list(vms, "")),
+        [Move { vm, to, .. }] => {
+            let what = if on_a_node(*to) { "move" } else { "shutdown" };
+            format!(" (VM {vm} counts there until its {what} ends)")
+        }
+        moves => {
+            let vms: Vec<usize> = moves.iter().map(|m| m.vm).collect();
+            format!(" (VMs {} count there until their moves end)", number_list(&vms, ""))
+        }
     }
 }

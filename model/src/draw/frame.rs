@@ -1,8 +1,8 @@
-//! What each frame of the page shows: which VMs stand on which node, and how.
+//! What each frame of the page shows: which VMs stand on which node or on none, and how.
 
 use super::blame::Blame;
 use super::words::{behind, many, moves, stranger, Spent};
-use crate::records::{Move, Room, Step};
+use crate::records::{on_a_node, Move, Room, Step, NOWHERE};
 use crate::rules::{Placement, Sum, Verdict};
 
 /// Up to this many nodes are all shown in every frame, unless the page would have more blocks
@@ -10,7 +10,7 @@ use crate::rules::{Placement, Sum, Verdict};
 const MOST_NODES: usize = 16;
 const MOST_BLOCKS: usize = 8_000;
 
-/// How a VM stands on a node.
+/// How a VM stands on a node, or on the shelf.
 #[derive(Clone, Copy, Debug, PartialEq, Eq)]
 pub enum Role {
     Rests,
@@ -24,7 +24,15 @@ pub struct Block {
     pub role: Role,
 }
 
-/// One picture: its words, the nodes it shows, and the blocks of each node from the bottom up.
+/// The VMs on no node, and how many more of them a brief frame leaves out.
+#[derive(Clone, Debug, Default)]
+pub struct Shelf {
+    pub blocks: Vec<Block>,
+    pub left_out: usize,
+}
+
+/// One picture: its words, the nodes it shows, the blocks of each node from the bottom up, and a
+/// shelf if some VM of the cluster ever is on no node.
 #[derive(Clone, Debug, Default)]
 pub struct Frame {
     pub title: String,
@@ -37,9 +45,23 @@ pub struct Frame {
     pub blame: Blame,
     pub shown: Vec<usize>,
     pub nodes: Vec<Vec<Block>>,
+    pub shelf: Option<Shelf>,
 }
 
 impl Frame {
+    /// The blocks at a place.
+    pub fn blocks(&self, place: usize) -> &[Block] {
+        match &self.shelf {
+            _ if on_a_node(place) => &self.nodes[place],
+            Some(shelf) => &shelf.blocks,
+            None => &[],
+        }
+    }
+
+    fn all_blocks(&self) -> impl Iterator<Item = &Block> {
+        self.nodes.iter().flatten().chain(self.blocks(NOWHERE))
+    }
+
     /// What stands on a node, with a running VM counted on both its nodes.
     pub fn sum(&self, room: &Room, node: usize) -> Sum {
         let vms = self.nodes[node].iter().map(|block| &room.vms[block.vm]);
@@ -48,16 +70,27 @@ impl Frame {
 
     /// How many moves run.
     pub fn running(&self) -> usize {
-        let blocks = self.nodes.iter().flatten();
-        blocks.filter(|block| matches!(block.role, Role::Leaves { .. })).count()
+        self.all_blocks().filter(|block| matches!(block.role, Role::Leaves { .. })).count()
     }
 
     /// How many VMs rest off their targets.
     pub fn astray(&self, room: &Room) -> usize {
-        let off = |(node, blocks): (usize, &Vec<Block>)| {
-            blocks.iter().filter(|block| room.vms[block.vm].target != node).count()
+        let off = |place: usize| {
+            self.blocks(place).iter().filter(|block| room.vms[block.vm].target != place).count()
         };
-        self.nodes.iter().enumerate().map(off).sum()
+        (0..self.nodes.len()).chain([NOWHERE]).map(off).sum()
+    }
+
+    /// Leaves only what the step touches or what refuses it.
+    fn shorten(&mut self, here: &Placement, step: &[Move]) {
+        let Frame { blame, shown, shelf, brief, .. } = self;
+        *brief = true;
+        shown.retain(|&node| touches(here, step, node) || blame.has_place(node));
+        if let Some(Shelf { blocks, left_out }) = shelf {
+            let all = blocks.len();
+            blocks.retain(|b| b.role != Role::Rests || blame.has_vm(NOWHERE, b.vm));
+            *left_out = all - blocks.len();
+        }
     }
 
     fn refuse(&mut self, number: u8) {
@@ -94,9 +127,7 @@ pub fn frames(room: &Room, steps: &[Step], verdict: Verdict) -> Result<Vec<Frame
             frame.notes.push(spent.step(room, step));
         }
         if brief {
-            frame.brief = true;
-            let Frame { blame, shown, .. } = &mut frame;
-            shown.retain(|&node| touches(&here, step, node) || blame.has_node(node));
+            frame.shorten(&here, step);
         }
         frames.push(frame);
         here = here.after(room, step);
@@ -124,22 +155,28 @@ fn still(room: &Room, here: &Placement, title: &str) -> Frame {
 /// The blocks while these moves run: who was there by number, arrivals on top.
 fn running(room: &Room, here: &Placement, step: &[Move]) -> Frame {
     let mut nodes = vec![Vec::new(); room.nodes.len()];
+    let mut shelf = Shelf::default();
+    let mut put = |place: usize, block: Block| match on_a_node(place) {
+        true => nodes[place].push(block),
+        false => shelf.blocks.push(block),
+    };
     for (vm, &place) in here.place.iter().enumerate() {
         let leaves = step.iter().find(|m| m.vm == vm);
         let role = leaves.map_or(Role::Rests, |m| Role::Leaves { to: m.to });
-        nodes[place].push(Block { vm, role });
+        put(place, Block { vm, role });
     }
     for &Move { vm, to, .. } in step {
-        nodes[to].push(Block { vm, role: Role::Arrives { from: here.place[vm] } });
+        put(to, Block { vm, role: Role::Arrives { from: here.place[vm] } });
     }
-    Frame { shown: (0..nodes.len()).collect(), nodes, ..Frame::default() }
+    let shelf = room.has_nowhere().then_some(shelf);
+    Frame { shown: (0..nodes.len()).collect(), nodes, shelf, ..Frame::default() }
 }
 
 fn touches(here: &Placement, step: &[Move], node: usize) -> bool {
     step.iter().any(|m| m.to == node || here.place[m.vm] == node)
 }
 
-/// Whether a move goes to a node that is not its VM's target.
+/// Whether a move goes to a place that is not its VM's target.
 pub fn is_pivot(room: &Room, m: &Move) -> bool {
     room.vms[m.vm].target != m.to
 }

@@ -2,12 +2,13 @@
 
 use super::frame::{Block, Role};
 use super::svg::{line_height, rect, text, width, Area};
-use crate::records::Room;
+use crate::records::{on_a_node, Room, NOWHERE};
 
-/// A block that is to be written in: whose it is, on which node, where, and how large the words.
+/// A block that is to be written in: whose it is, on which node or on none, where it is drawn, and
+/// how large the words.
 pub struct Label<'a> {
     pub room: &'a Room,
-    pub node: usize,
+    pub place: usize,
     pub block: Block,
     pub area: Area,
     pub font: f64,
@@ -42,25 +43,27 @@ impl Label<'_> {
     /// What may be written, the fullest first, one short line last: the VM, and where it runs or
     /// should be unless it is at home.
     fn ways(&self) -> Vec<Vec<String>> {
-        let Label { room, node, block: Block { vm, role }, .. } = *self;
+        let Label { room, place, block: Block { vm, role }, .. } = *self;
         let (memory, target) = (room.vms[vm].memory, room.vms[vm].target);
         let (name, size) = (format!("VM {vm}"), format!("{memory} MiB"));
         let sized = format!("{name} \u{b7} {size}");
-        let (long, sign, other, remark) = match role {
-            Role::Rests if target == node => {
+        let (long, sign, other, pivots) = match role {
+            Role::Rests if target == place => {
                 return vec![vec![sized], vec![name.clone(), size], vec![name]];
             }
-            Role::Rests => ("target", ", target", target, ""),
-            Role::Leaves { to } if to == target => ("runs to", " \u{2192}", to, ""),
-            Role::Leaves { to } => ("pivot to", " \u{2192}", to, " pivot"),
-            Role::Arrives { from } if node == target => ("runs from", " \u{2190}", from, ""),
-            Role::Arrives { from } => ("pivot from", " \u{2190}", from, " pivot"),
+            Role::Rests => (format!("target {}", brief(target)), ", target", target, false),
+            Role::Leaves { to } => (leaving(to, to != target), " \u{2192}", to, to != target),
+            Role::Arrives { from } => {
+                (arriving(from, place != target), " \u{2190}", from, place != target)
+            }
         };
-        let long = format!("{long} {other}");
-        let short = |vm: usize, other: usize| format!("{vm}{sign} {other}{remark}");
+        let remark = if pivots { " pivot" } else { "" };
+        let short = |vm: usize, other: usize| format!("{vm}{sign} {}{remark}", brief(other));
         // The noun stands in all blocks of a kind or in none.
-        let widest = short(room.vms.len() - 1, room.nodes.len() - 1);
-        let noun = if self.fits(&format!("VM {widest}")) { "VM " } else { "" };
+        let last = room.nodes.len() - 1;
+        let widest = [last, if room.has_nowhere() { NOWHERE } else { last }];
+        let fits = |other: usize| self.fits(&format!("VM {}", short(room.vms.len() - 1, other)));
+        let noun = if widest.into_iter().all(fits) { "VM " } else { "" };
         let short = format!("{noun}{}", short(vm, other));
         vec![vec![sized, long.clone()], vec![name, long], vec![short]]
     }
@@ -87,5 +90,32 @@ impl Label<'_> {
             out += &text(class, (x, y), self.font, self.inner(), words);
         }
         out
+    }
+}
+
+/// A place in a word.
+fn brief(place: usize) -> String {
+    if on_a_node(place) {
+        return place.to_string();
+    }
+    "none".into()
+}
+
+/// What a running VM does, said at its source.
+fn leaving(to: usize, pivots: bool) -> String {
+    match on_a_node(to) {
+        true if pivots => format!("pivot to {to}"),
+        true => format!("runs to {to}"),
+        false => "shuts down".into(),
+    }
+}
+
+/// What a running VM does, said at its destination.
+fn arriving(from: usize, pivots: bool) -> String {
+    match on_a_node(from) {
+        true if pivots => format!("pivot from {from}"),
+        true => format!("runs from {from}"),
+        false if pivots => "launch, pivot".into(),
+        false => "launched".into(),
     }
 }

@@ -9,6 +9,7 @@ mod label;
 mod look;
 mod node;
 mod picture;
+mod shelf;
 mod svg;
 mod words;
 
@@ -37,6 +38,9 @@ const LABELS: &str = "VM 5, target 9: VM 5 is to end on node 9. VM 5 \u{2192} 9:
     for words is shown again below its node.";
 const BRIEF: &str = " A step's frame shows the nodes that the step touches; the others stay as \
     they are.";
+const SHELF: &str = " The shelf holds the VMs on no node; nothing counts there. Target none: the \
+    VM is to be on no node. VM 5 \u{2192} none: it is shut down, and counts on its node until that \
+    has ended. VM 5 \u{2190} none: it is launched.";
 const PIVOT: &str = " A pivot is a move to a node that is not its VM's target.";
 const MARKS: &str = " Broken red lines are around what refuses a step.";
 
@@ -128,6 +132,7 @@ fn reading(room: &Room, steps: &[Step], frames: &[Frame]) -> String {
     let sentences = [
         (true, LABELS),
         (frames.iter().any(|frame| frame.brief), BRIEF),
+        (room.has_nowhere(), SHELF),
         (pivots, PIVOT),
         (frames.iter().any(|frame| !frame.blame.notes().is_empty()), MARKS),
     ];

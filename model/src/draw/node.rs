@@ -5,6 +5,7 @@ use super::frame::{Block, Frame, Role};
 use super::look::{Look, Scale, NARROW};
 use super::picture::{Drawn, Picture};
 use super::svg::{rect, text, Area};
+use super::words::place_words;
 use crate::form::number_list;
 use crate::records::{Room, Vm};
 
@@ -21,7 +22,7 @@ pub fn drawing(room: &Room, scale: &Scale, frame: &Frame) -> String {
 impl Picture<'_> {
     fn drawing(&self) -> String {
         let (width, height) = (self.width(), self.height());
-        let (mut shapes, mut words) = (String::new(), String::new());
+        let (mut shapes, mut words) = self.shelf();
         for &node in self.row {
             shapes += &self.shapes(node);
             words += &self.labels(node);
@@ -42,7 +43,7 @@ impl Picture<'_> {
         let (memory, cpu) = (self.memory_bar(node), self.cpu_bar(node));
         let (blocks, tags) = (self.memory_blocks(node), self.tags(node));
         let mut out = String::new();
-        if self.frame.blame.has_node(node) {
+        if self.frame.blame.has_place(node) {
             out += &rect("blamed", self.around(node), "");
         }
         for bar in [&memory, &cpu] {
@@ -130,7 +131,7 @@ impl Picture<'_> {
             amount("memory ", sum.memory, row.memory),
             amount("CPU ", sum.cpu, row.cpu),
         ];
-        if self.frame.blame.has_node(node) {
+        if self.frame.blame.has_place(node) {
             lines.push(("overfull", self.frame.blame.word.into()));
         }
         let (left, bottom) = self.foot(node);
@@ -149,21 +150,21 @@ impl Picture<'_> {
     }
 }
 
-fn class(room: &Room, node: usize, block: Block) -> &'static str {
+pub fn class(room: &Room, place: usize, block: Block) -> &'static str {
     match block.role {
         Role::Leaves { .. } => "vm leaves",
         Role::Arrives { .. } => "vm arrives",
-        Role::Rests if room.vms[block.vm].target == node => "vm home",
+        Role::Rests if room.vms[block.vm].target == place => "vm home",
         Role::Rests => "vm astray",
     }
 }
 
 /// What a reader sees who rests the pointer on a block.
-fn tip(room: &Room, vms: &[usize]) -> String {
+pub fn tip(room: &Room, vms: &[usize]) -> String {
     let words = match *vms {
         [vm] => {
             let Vm { memory, cpu, target, .. } = &room.vms[vm];
-            format!("VM {vm}: memory {memory}, CPU {cpu}, target node {target}")
+            format!("VM {vm}: memory {memory}, CPU {cpu}, target {}", place_words(*target))
         }
         _ => format!("VMs {}", number_list(vms, "")),
     };

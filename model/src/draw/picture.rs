@@ -5,7 +5,7 @@ use super::frame::{Block, Frame, Role};
 use super::label::Label;
 use super::look::{Look, Scale, LINES};
 use super::svg::Area;
-use crate::records::{Room, Vm};
+use crate::records::{on_a_node, Room, Vm};
 
 /// A block and where it is drawn.
 pub type Drawn = (Block, Area);
@@ -21,12 +21,17 @@ pub struct Picture<'a> {
 
 impl Picture<'_> {
     pub fn width(&self) -> f64 {
-        self.row.len() as f64 * self.look.column
+        self.columns() as f64 * self.look.column
     }
 
     pub fn height(&self) -> f64 {
         let depths = self.row.iter().map(|&node| self.depth(node));
-        self.look.foot() + depths.fold(0.0, f64::max) + 0.3 * self.look.font
+        self.ground() + depths.fold(0.0, f64::max) + 0.3 * self.look.font
+    }
+
+    /// The line that the bars of this row stand on.
+    fn ground(&self) -> f64 {
+        self.shelf_height() + self.look.foot()
     }
 
     /// How deep a node's words and tags reach below its bars.
@@ -35,13 +40,13 @@ impl Picture<'_> {
     }
 
     fn below_words(&self, node: usize) -> f64 {
-        self.look.below(LINES + usize::from(self.frame.blame.has_node(node)))
+        self.look.below(LINES + usize::from(self.frame.blame.has_place(node)))
     }
 
     /// The left end of a node's bars and the line they stand on.
     pub fn foot(&self, node: usize) -> (f64, f64) {
         let place = self.row.iter().position(|&other| other == node);
-        (self.look.left(place.expect("a node of this row")), self.look.foot())
+        (self.look.left(place.expect("a node of this row")), self.ground())
     }
 
     pub fn memory_bar(&self, node: usize) -> Bar {
@@ -74,8 +79,16 @@ impl Picture<'_> {
         self.frame.nodes[node].iter().map(place).collect()
     }
 
-    pub fn label(&self, node: usize, (block, area): Drawn) -> Label<'_> {
-        Label { room: self.room, node, block, area, font: self.look.font }
+    /// Where the blocks at a place are drawn.
+    pub fn drawn_at(&self, place: usize) -> Vec<Drawn> {
+        if on_a_node(place) {
+            return self.memory_blocks(place);
+        }
+        self.shelf_boxes()
+    }
+
+    pub fn label(&self, place: usize, (block, area): Drawn) -> Label<'_> {
+        Label { room: self.room, place, block, area, font: self.look.font }
     }
 
     /// Tags: the blocks that must be named and are too low for it, shown again below their node.
@@ -96,7 +109,7 @@ impl Picture<'_> {
         drawn.into_iter().enumerate().map(tag).collect()
     }
 
-    pub fn blames(&self, node: usize, block: Block) -> bool {
-        self.frame.blame.has_vm(node, block.vm)
+    pub fn blames(&self, place: usize, block: Block) -> bool {
+        self.frame.blame.has_vm(place, block.vm)
     }
 }

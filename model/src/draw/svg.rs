@@ -66,9 +66,12 @@ pub fn text(class: &str, (x, y): (f64, f64), font: f64, widest: f64, words: &str
 
 /// An arrow from one point to the other, bent upwards.
 pub fn arrow(from: (f64, f64), to: (f64, f64)) -> String {
-    let ((x1, y1), (x2, y2)) = (from, to);
-    let bend = (0.18 * (x2 - x1).abs()).min(50.0);
-    let (x, y) = ((x1 + x2) / 2.0, y1.min(y2) - bend);
+    let bend = (0.18 * (to.0 - from.0).abs()).min(50.0);
+    bent(from, ((from.0 + to.0) / 2.0, from.1.min(to.1) - bend), to)
+}
+
+/// An arrow from one point to another, bent towards a third.
+pub fn bent((x1, y1): (f64, f64), (x, y): (f64, f64), (x2, y2): (f64, f64)) -> String {
     let way = format!("M {x1:.1} {y1:.1} Q {x:.1} {y:.1} {x2:.1} {y2:.1}");
     format!("<path class=\"halo\" d=\"{way}\"/>\n<path class=\"arrow\" d=\"{way}\"/>\n")
 }

@@ -2,8 +2,8 @@
 
 use super::frame::is_pivot;
 use crate::form::{number_list, NODES, VMS};
-use crate::records::{Move, Room};
-use crate::rules::{step_cost, Placement};
+use crate::records::{on_a_node, Move, Room};
+use crate::rules::{step_cost, step_sum, Placement};
 
 /// More ways than this are only counted.
 const MOST_WAYS: usize = 24;
@@ -14,6 +14,14 @@ pub fn many(count: usize, noun: &str) -> String {
     format!("{count} {noun}{end}")
 }
 
+/// A place in words.
+pub fn place_words(place: usize) -> String {
+    if on_a_node(place) {
+        return format!("node {place}");
+    }
+    "no node".into()
+}
+
 /// Why a step does not fit the cluster, if it does not: fault 15 in words.
 pub fn stranger(room: &Room, here: &Placement, step: &[Move]) -> Option<String> {
     let mut before = None;
@@ -21,14 +29,21 @@ pub fn stranger(room: &Room, here: &Placement, step: &[Move]) -> Option<String> 
         if vm >= room.vms.len() {
             return Some(VMS.missing(vm as u64, room.vms.len()));
         }
-        if to >= room.nodes.len() {
+        let target = room.vms[vm].target;
+        if on_a_node(to) && to >= room.nodes.len() {
             return Some(NODES.missing(to as u64, room.nodes.len()));
+        }
+        if !on_a_node(to) && on_a_node(target) {
+            return Some(format!("VM {vm} is to be shut down, but its target is node {target}"));
         }
         if let Some(before) = before.filter(|&before| before >= vm) {
             return Some(format!("VM {vm} stands behind VM {before}; the VMs of a step rise"));
         }
         if here.place[vm] == to {
-            return Some(format!("VM {vm} goes to node {to}, where it already is"));
+            return Some(match on_a_node(to) {
+                true => format!("VM {vm} goes to node {to}, where it already is"),
+                false => format!("VM {vm} is to be shut down, but it is on no node already"),
+            });
         }
         before = Some(vm);
     }
@@ -59,7 +74,12 @@ pub fn moves(room: &Room, here: &Placement, step: &[Move]) -> String {
 fn way_words((from, to, pivot, vms): &Way) -> String {
     let end = if vms.len() == 1 { "" } else { "s" };
     let remark = if *pivot { format!(" (pivot{end})") } else { String::new() };
-    format!("VM{end} {} from node {from} to {to}{remark}", number_list(vms, ""))
+    let way = match (on_a_node(*from), on_a_node(*to)) {
+        (true, true) => format!("from node {from} to {to}"),
+        (false, _) => format!("launched on node {to}"),
+        (true, false) => format!("shut down on node {from}"),
+    };
+    format!("VM{end} {} {way}{remark}", number_list(vms, ""))
 }
 
 /// What the steps so far cost, and what the plan costs up to them.
@@ -72,8 +92,7 @@ pub struct Spent {
 impl Spent {
     /// Adds a step and says what it adds.
     pub fn step(&mut self, room: &Room, step: &[Move]) -> String {
-        let memory: u64 = step.iter().map(|m| room.vms[m.vm].memory).sum();
-        let cost = memory + self.earlier * step.len() as u64;
+        let cost = step_sum(room, step, self.earlier);
         self.plan += cost;
         self.earlier += step_cost(room, step);
         format!("Cost of these moves {cost}, of the plan so far {}.", self.plan)

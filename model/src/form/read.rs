@@ -1,9 +1,9 @@
 //! From text to a cluster.
 
 use super::words::{digits, lines, Fault, Words};
-use super::{Things, NODES, VMS};
+use super::{Things, NODES, VMS, WORD};
 use crate::gen::{MOST_CPU, MOST_MEMORY};
-use crate::records::{Constraint, Node, Room, Vm};
+use crate::records::{Constraint, Node, Room, Version, Vm, NOWHERE};
 
 const MOST_CONSTRAINTS: usize = 128;
 const MOST_GROUPS: usize = 64;
@@ -15,16 +15,25 @@ struct Counts {
     vms: usize,
 }
 
-/// The lines of each sort, the first word read.
+/// A version that is said, and in which line.
+#[derive(Clone, Copy)]
+struct Said {
+    version: Version,
+    line: usize,
+}
+
+/// The lines of each sort, the first word read; a line `version` read whole.
 #[derive(Default)]
 struct Sorted<'a> {
+    said: Option<Said>,
     nodes: Vec<Words<'a>>,
     vms: Vec<Words<'a>>,
     constraints: Vec<(&'a str, Words<'a>)>,
 }
 
 /// Reads a cluster's text. Lines may stand in any order: the nodes are read first, then the VMs,
-/// then the constraints. It tests shape only; the target may be a bad one (faults 8 and 9).
+/// then the constraints. A line `version` or the places of the VMs tell its version. It tests shape
+/// only; the target may be a bad one (faults 8 and 9).
 pub fn read_cluster(text: &[u8]) -> Result<Room, Fault> {
     let (lines, last) = lines(text)?;
     let sorted = sort(lines)?;
@@ -33,10 +42,25 @@ pub fn read_cluster(text: &[u8]) -> Result<Room, Fault> {
         let reason = "the text ends without a node line; a cluster has 1 to 64 nodes".into();
         return Err(Fault { line: last, reason });
     }
+    let nowhere = sorted.vms.iter().find(|words| words.has(WORD)).map(|words| words.line);
     let vms = rows(sorted.vms, VMS, |words| vm(words, nodes.len()))?;
+    let version = version(sorted.said, nowhere)?;
     let counts = Counts { nodes: nodes.len(), vms: vms.len() };
     let constraints = constraints(sorted.constraints, counts)?;
-    Ok(Room { nodes, vms, constraints })
+    Ok(Room { version, nodes, vms, constraints })
+}
+
+/// The version that is said; else 2 if some line has a VM on no node, and 1 if none has.
+fn version(said: Option<Said>, nowhere: Option<usize>) -> Result<Version, Fault> {
+    match (said, nowhere) {
+        (Some(Said { version: Version::One, line }), Some(at)) => {
+            let reason = format!("version 1 is said, but line {at} has '{WORD}', of version 2");
+            Err(Fault { line, reason })
+        }
+        (Some(Said { version, .. }), _) => Ok(version),
+        (None, Some(_)) => Ok(Version::Two),
+        (None, None) => Ok(Version::One),
+    }
 }
 
 fn sort(lines: Vec<Words>) -> Result<Sorted, Fault> {
@@ -48,12 +72,17 @@ fn sort(lines: Vec<Words>) -> Result<Sorted, Fault> {
             kind @ ("ban" | "fence" | "spread" | "latency") => {
                 sorted.constraints.push((kind, words));
             }
-            word @ ("step" | "version") => {
-                let reason = "belongs in a plan's text; this is read as a cluster";
-                return words.fault(format!("'{word}' {reason}"));
+            "version" => {
+                if let Some(Said { line, .. }) = sorted.said {
+                    return words.fault(format!("'version' stands here again; line {line} has it"));
+                }
+                sorted.said = Some(Said { version: words.version()?, line: words.line });
+            }
+            "step" => {
+                return words.fault("'step' belongs in a plan's text; this is read as a cluster");
             }
             other => {
-                let known = "node, vm, ban, fence, spread or latency";
+                let known = "version, node, vm, ban, fence, spread or latency";
                 return words.fault(format!("no line begins with '{other}', only with {known}"));
             }
         }
@@ -113,8 +142,14 @@ fn vm(words: &mut Words, nodes: usize) -> Result<Vm, Fault> {
 }
 
 fn place(words: &mut Words, what: &str, nodes: usize) -> Result<usize, Fault> {
-    let number = words.number(what)?;
-    known(words, number, NODES, nodes)
+    match words.place(what)? {
+        Some(number) if number == NOWHERE as u64 => {
+            let missing = NODES.missing(number, nodes);
+            words.fault(format!("{missing}; on no node is '{WORD}'"))
+        }
+        Some(number) => known(words, number, NODES, nodes),
+        None => Ok(NOWHERE),
+    }
 }
 
 /// A number that names one of `count` things.

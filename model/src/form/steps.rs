@@ -1,7 +1,8 @@
 //! A plan's text, both ways.
 
+use super::place_word;
 use super::words::{lines, Fault, Words};
-use crate::records::{Move, Plan, Step, Version};
+use crate::records::{Move, Plan, Step, Version, NOWHERE};
 
 const MOST_STEPS: usize = 512;
 const MOST_MOVES: usize = 1_024;
@@ -49,10 +50,7 @@ fn version(words: &mut Words, told: Option<Told>) -> Result<Told, Fault> {
         }
         None => {}
     }
-    let number = words.number_in("the version", 1, 2)? as u8;
-    words.end()?;
-    let version = Version::of(number).expect("a number that was tested");
-    Ok(Told { version, line: words.line, by_move: false })
+    Ok(Told { version: words.version()?, line: words.line, by_move: false })
 }
 
 /// Reads moves with commas between them.
@@ -75,12 +73,20 @@ fn step(words: &mut Words, told: &mut Option<Told>) -> Result<Step, Fault> {
 fn read_move(words: &mut Words) -> Result<Move, Fault> {
     let vm = words.number_in("a VM", 0, 255)? as usize;
     let from = match words.take("from") {
-        true => Some(words.number_in("a source", 0, 255)? as usize),
+        true => Some(place(words, "a source")?),
         false => None,
     };
     words.expect("to")?;
-    let to = words.number_in("a destination", 0, 255)? as usize;
+    let to = place(words, "a destination")?;
     Ok(Move { vm, from, to })
+}
+
+/// Reads a node, which need not be one of the cluster's, or nowhere.
+fn place(words: &mut Words, what: &str) -> Result<usize, Fault> {
+    match words.place(what)? {
+        Some(number) => Ok(words.in_range(what, number, 0, 255)? as usize),
+        None => Ok(NOWHERE),
+    }
 }
 
 /// A move must be of the version that is told; the first tells it if nothing has. A line that
@@ -119,6 +125,6 @@ pub fn write_plan(plan: &Plan) -> String {
 }
 
 fn write_move(m: &Move) -> String {
-    let from = m.from.map_or(String::new(), |from| format!(" from {from}"));
-    format!("{}{from} to {}", m.vm, m.to)
+    let from = m.from.map_or(String::new(), |from| format!(" from {}", place_word(from)));
+    format!("{}{from} to {}", m.vm, place_word(m.to))
 }

@@ -1,5 +1,8 @@
 //! Lines of a text form, word by word.
 
+use super::WORD;
+use crate::records::Version;
+
 /// Why a text is refused, and at which line, counted from 1.
 #[derive(Clone, Debug, PartialEq, Eq)]
 pub struct Fault {
@@ -63,6 +66,11 @@ impl<'a> Words<'a> {
         self.rest.pop()
     }
 
+    /// Whether this word is still to be read.
+    pub fn has(&self, word: &str) -> bool {
+        self.rest.contains(&word)
+    }
+
     /// Reads this word if it comes next.
     pub fn take(&mut self, word: &str) -> bool {
         let comes = self.peek() == Some(word);
@@ -95,10 +103,35 @@ impl<'a> Words<'a> {
     /// Reads a number from `low` to `high`.
     pub fn number_in(&mut self, what: &str, low: u64, high: u64) -> Result<u64, Fault> {
         let number = self.number(what)?;
+        self.in_range(what, number, low, high)
+    }
+
+    /// A number that must be from `low` to `high`.
+    pub fn in_range(&self, what: &str, number: u64, low: u64, high: u64) -> Result<u64, Fault> {
         if (low..=high).contains(&number) {
             return Ok(number);
         }
         self.fault(format!("{what} cannot be {number} (it goes from {low} to {high})"))
+    }
+
+    /// Reads a place: a number, or `None` for the word that says no node.
+    pub fn place(&mut self, what: &str) -> Result<Option<u64>, Fault> {
+        if self.take(WORD) {
+            return Ok(None);
+        }
+        match self.peek() {
+            Some(word) if digits(word).is_none() => {
+                self.fault(format!("'{word}' stands where {what} should, a number or '{WORD}'"))
+            }
+            _ => self.number(what).map(Some),
+        }
+    }
+
+    /// Reads the number behind `version` and the end of its line.
+    pub fn version(&mut self) -> Result<Version, Fault> {
+        let number = self.number_in("the version", 1, 2)? as u8;
+        self.end()?;
+        Ok(Version::of(number).expect("a number that was tested"))
     }
 
     /// Nothing more may come.

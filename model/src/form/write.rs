@@ -1,13 +1,18 @@
 //! From a cluster to text.
 
-use super::{Things, NODES, VMS};
-use crate::records::{Constraint, Node, Room, Vm};
+use super::{place_word, Things, NODES, VMS};
+use crate::records::{Constraint, Node, Room, Version, Vm};
 
-/// Writes a cluster's text, with the numbers of nodes and VMs as remarks.
+/// Writes a cluster's text, with the numbers of nodes and VMs as remarks. Its version needs a line
+/// only where no place tells it and it is not 1.
 pub fn write_cluster(room: &Room) -> String {
     let mut text = String::from("# memory in MiB, CPU in hundredths of a processing unit\n");
+    if room.version == Version::Two && !room.has_nowhere() {
+        text += "version 2\n";
+    }
     text += &rows(&room.nodes, NODES, |Node { memory, cpu }| format!("node {memory} {cpu}"));
     text += &rows(&room.vms, VMS, |Vm { memory, cpu, current, target }| {
+        let [current, target] = [current, target].map(|&place| place_word(place));
         format!("vm {memory} {cpu} from {current} to {target}")
     });
     for constraint in &room.constraints {

@@ -8,10 +8,10 @@ use native.Mathlib.Decide.{ℕ-discrete}
 use native.Mathlib.Omega.{arith}
 use lib.ListN.{length, set, length-set}
 use lib.Seq.{getD-set-same, getD-set-other}
-use lib.Dec.{eqb}
+use lib.Dec.{ltb, eqb}
 use borrow.Author.Tests.{eqb-true, eqb-false, not-true, le-leb, eq-eqb}
 use Rattle.records.specs.Base.{pick, all, sumOf}
-use Rattle.records.specs.Room.{Room}
+use Rattle.records.specs.Room.{Room, onNode}
 use Rattle.records.specs.Plan.{Move, Step, moveTotal, sized, shaped}
 use Rattle.records.specs.Inner.{tellsSources}
 use Rattle.records.proofs.Laws.Bools.{and-left, and-right, and-both, all-head, all-tail}
@@ -240,18 +240,19 @@ some-such {A = A} p (x ∷ xs) e = go (p x) refl e (some-such p xs)
 useful-tells : (room : Room) (places : Placement) (v d : ℕ) → useful room places v d ≡ true → Pivot room places v d
 unfolding useful otherGoes after
 useful-tells room places v d e =
-    let a = away room places v in
+    let a : Bool = away room places v && onNode (placeOf places v) in
+    let n : Bool = ltb d (length (room .nodes)) in
     let o : Bool = not (eqb d (placeOf places v)) in
     let t : Bool = not (eqb d (placeOf (targetOf room) v)) in
     let s = soundStep room places (moving v d ∷ []) in
     let g : Bool = some (λ u. not (eqb u v) && canGo room (set places v d) u) (vmsIn room) in
-    let x : (a && (o && t)) ≡ true = and-left (a && (o && t)) (s && g) e in
-    let y : (s && g) ≡ true = and-right (a && (o && t)) (s && g) e in
+    let x : (a && (n && (o && t))) ≡ true = and-left (a && (n && (o && t))) (s && g) e in
+    let y : (s && g) ≡ true = and-right (a && (n && (o && t))) (s && g) e in
     let w = some-such (λ u. not (eqb u v) && canGo room (set places v d) u) (vmsIn room) (and-right s g y) in
     let u = w .0 in
     record {
-      out = and-left a (o && t) x;
-      elsewhere = and-right o t (and-right a (o && t) x);
+      out = and-left (away room places v) (onNode (placeOf places v)) (and-left a (n && (o && t)) x);
+      elsewhere = and-right o t (and-right n (o && t) (and-right a (n && (o && t)) x));
       other = u;
       apart = eqb-false u v (not-true (eqb u v) (and-left (not (eqb u v)) (canGo room (set places v d) u) (w .1)));
       can-go = and-right (not (eqb u v)) (canGo room (set places v d) u) (w .1);

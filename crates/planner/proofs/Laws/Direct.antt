@@ -1,23 +1,24 @@
 -- Laws on the direct step: it is sound, its moves take VMs that are away to their targets, and it has none exactly if no VM can go.
 use Prim.Native.Nat.{ℕ, zero, suc, _+_, _≤_, _<_}
-use mathlib.Core.Bool.{Bool, true, false, _&&_}
+use mathlib.Core.Bool.{Bool, true, false, not, _&&_, or-true}
 use mathlib.Core.List.{List, [], _∷_, _++_}
 use mathlib.Core.Logic.{by-cases}
 use mathlib.Core.Path.{_≡_, refl, sym, ap, _∙_}
 use native.Mathlib.Decide.{ℕ-discrete}
 use native.Mathlib.Omega.{arith}
 use lib.ListN.{length}
-use lib.Dec.{eqb}
-use borrow.Author.Tests.{eq-eqb}
+use lib.Dec.{ltb, eqb}
+use borrow.Author.Tests.{lt-ltb, eq-eqb}
 use Rattle.records.specs.Base.{pick, all}
-use Rattle.records.specs.Room.{Room}
+use Rattle.records.specs.Room.{Room, nowhere, onNode}
 use Rattle.records.specs.Plan.{Move, Step}
 use Rattle.records.proofs.Laws.Bools.{and-left, and-right, and-both}
-use Rattle.rules.specs.Moments.{Placement, placeOf, targetOf}
-use Rattle.rules.specs.Rules.{from, soundStep}
+use Rattle.rules.specs.Moments.{Placement, placeOf, targetOf, bears}
+use Rattle.rules.specs.Orders.{meetsMate}
+use Rattle.rules.specs.Rules.{from, allowed, aims, soundStep}
 use Rattle.rules.proofs.Laws.Orders.{never, named-vm}
 use Rattle.rules.proofs.Laws.Sound.{sound-named}
-use Rattle.rules.proofs.Laws.Adding.{all-snoc, empty-sound}
+use Rattle.rules.proofs.Laws.Adding.{eqb-sym, joins, alone, all-snoc, empty-sound}
 use Rattle.planner.specs.Picks.{vmsIn, away, direct, canGo, joined, joinedAll, directStep}
 
 -- a move of a VM that is away, to its target
@@ -99,6 +100,13 @@ module _ (room : Room) (places : Placement) where
   goes-there v e =
       named-vm room places 0 (direct room v) []
       (sound-named room places (direct room v ∷ []) (and-right (away room places v) _ e))
+
+  -- a VM that is wanted on no node and is on one can always go: a shutdown never waits
+  pub shutdown-goes : (v : ℕ) → v < length (room .vms) → placeOf (targetOf room) v ≡ nowhere → away room places v ≡ true → canGo room places v ≡ true
+  unfolding canGo away joins aims allowed bears meetsMate onNode
+  shutdown-goes v h t a =
+      and-both a (alone room places v (placeOf (targetOf room) v) ∙ rw (t, lt-ltb v (length (room .vms)) h, or-true (ltb nowhere (length (room .nodes))), eqb-sym nowhere (placeOf places v))
+      (rw t at (and-both a refl)))
 
   pub direct-none : directStep room places ≡ [] → (v : ℕ) → canGo room places v ≡ false
   unfolding directStep

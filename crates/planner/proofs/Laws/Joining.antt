@@ -1,8 +1,10 @@
 -- Laws on a move that is added to a step held as an array of destinations: the test at its destination is the test of the whole step.
-use Prim.Native.Nat.{ℕ, _+_, _*_, _<_}
+use Prim.Native.Nat.{ℕ, _+_, _*_, _≤_, _<_}
 use mathlib.Core.Bool.{Bool, true, false, not}
 use mathlib.Core.List.{List, [], _∷_, _++_}
+use mathlib.Core.Logic.{by-cases}
 use mathlib.Core.Path.{_≡_, refl, sym, ap, _∙_}
+use native.Mathlib.Decide.{decLt}
 use native.Mathlib.Omega.{arith}
 use lib.ListN.{length, getD, set, getD-replicate}
 use lib.Seq.{set-comm, getD-set-other}
@@ -11,19 +13,20 @@ use borrow.Author.Tests.{ltb-true, lt-ltb, eq-eqb, ne-eqb}
 use mir.Syntax.{w64}
 use mir.Val.{Fits}
 use Rattle.records.specs.Base.{pick, all}
-use Rattle.records.specs.Room.{Room, roomOf, vmOf, nodeOf, nodeCount, vmCount, clusterCheck}
+use Rattle.records.specs.Room.{Room, roomOf, vmOf, nodeOf, nodeCount, vmCount, placeOk, clusterCheck}
 use Rattle.records.specs.Plan.{Step}
 use Rattle.records.specs.declared.faults.ClusterCheck.the-variants.{Whole}
 use Rattle.records.proofs.Laws.Bools.{all-head, all-tail}
-use Rattle.records.proofs.Laws.Cluster.{nodes-most, vms-most, vms-count, nodes-count}
-use Rattle.rules.specs.Moments.{within, withVm, tallyAt, firstMoment, allRunning}
+use Rattle.records.proofs.Laws.Cluster.{nodes-most, vms-most, vms-count}
+use Rattle.records.proofs.Laws.Rows.{place-node, node-on, near-node, far-off}
+use Rattle.rules.specs.Moments.{within, bears, withVm, tallyAt, firstMoment, allRunning}
 use Rattle.rules.specs.Orders.{meetsMate}
-use Rattle.rules.specs.Rules.{allowed, soundStep}
+use Rattle.rules.specs.Rules.{allowed, aims, soundStep}
 use Rattle.rules.specs.Inner.{NeedOf, held, destsFrom, busyFrom, Allows}
 use Rattle.rules.specs.declared.tally.Need.{Need}
 use Rattle.rules.specs.declared.tally.Tally.{Tally}
 use Rattle.rules.proofs.Laws.Adding.{eqb-sym, joins, adding}
-use Rattle.rules.proofs.Laws.Fit.{held-at, running-is}
+use Rattle.rules.proofs.Laws.Fit.{aims-place, held-at, running-is}
 use Rattle.rules.proofs.Laws.Sound.{sound-named}
 use Rattle.planner.specs.Picks.{moving}
 use Rattle.planner.specs.Inner.{joinsIn, goalOf}
@@ -43,10 +46,17 @@ module _ (s : List ℕ) (v d : ℕ) (w : clusterCheck s ≡ Whole) (t : v < vmCo
   pub mark-index : d < nodeCount s → v * 64 + d < 16384
   mark-index n = let m = vms-most s w in let k = nodes-most s w in omega arith
 
+pub node-place : (s : List ℕ) (d : ℕ) → d < nodeCount s → placeOk true (nodeCount s) d ≡ true
+node-place s d h = sym (place-node true (nodeCount s) d h)
+
+-- a place below 64 is a node
+pub place-node-there : (s : List ℕ) (d : ℕ) → clusterCheck s ≡ Whole → placeOk true (nodeCount s) d ≡ true → d < 64 → d < nodeCount s
+place-node-there s d w a h = near-node (nodeCount s) d (nodes-most s w) a h
+
 pub sum-offset : (s : List ℕ) (d : ℕ) → clusterCheck s ≡ Whole → d < nodeCount s → Fits w64 (d * 16)
 sum-offset s d w h = let m = nodes-most s w in record { fits = omega arith }
 
-pub sum-index : (s : List ℕ) (d : ℕ) → clusterCheck s ≡ Whole → d < nodeCount s → d < 65
+pub sum-index : (s : List ℕ) (d : ℕ) → clusterCheck s ≡ Whole → d < nodeCount s → d < 256
 sum-index s d w h = let m = nodes-most s w in omega arith
 
 pub node-low : (s : List ℕ) (d : ℕ) → clusterCheck s ≡ Whole → d < nodeCount s → d < 64
@@ -71,6 +81,11 @@ module _ (s places dests : List ℕ) (here : Tally) (v d : ℕ) where
     leaves : eqb (getD places v 0) d ≡ false
     leaves = ne-eqb (getD places v 0) d (λ x. f (e ∙ x))
 
+    -- to no node nothing is asked
+    pub join-off : clusterCheck s ≡ Whole → placeOk true (nodeCount s) d ≡ true → 64 ≤ d → true ≡ joinsIn s places dests here v d
+    unfolding joinsIn allowed bears meetsMate
+    join-off w a h = rw (leaves, far-off (nodeCount s) d (nodes-most s w) a h)
+
     module _ (table : List ℕ) (a : Allows s table) (w : clusterCheck s ≡ Whole) (t : v < vmCount s) (n : d < nodeCount s) where
       marked : getD table (v * 64 + d) 0 ≡ pick (allowed (roomOf s) v d) 1 0
       marked = let b = nodes-most s w in a .each v d t (omega arith)
@@ -91,13 +106,17 @@ module _ (s places dests : List ℕ) (here : Tally) (v d : ℕ) where
           go false q = absurd (z (marked ∙ ap (λ (b : Bool). pick b 1 0) q))
 
       module _ (z : getD table (v * 64 + d) 0 ≡ 0 → ⊥) (ok : Bool) (o : ok ≡ within (nodeOf (roomOf s) d) (withVm here (vmOf (roomOf s) v))) where
+        bears-is : bears (roomOf s) d (withVm here (vmOf (roomOf s) v)) ≡ ok
+        unfolding bears
+        bears-is = rw (node-on (nodeCount s) d (nodes-most s w) n) (sym o)
+
         pub join-full : ok ≡ false → false ≡ joinsIn s places dests here v d
         unfolding joinsIn
-        join-full q = rw (leaves, is-allowed z, ← o, q)
+        join-full q = rw (leaves, is-allowed z, bears-is ∙ q)
 
         pub join-met : (met : Bool) → met ≡ meetsMate (roomOf s) (busyFrom places dests 0 (vmCount s)) v d → ok ≡ true → not met ≡ joinsIn s places dests here v d
         unfolding joinsIn
-        join-met met x q = rw (leaves, is-allowed z, ← o, q, x)
+        join-met met x q = rw (leaves, is-allowed z, bears-is ∙ q, x)
 
 -- where a VM goes
 module _ (s places dests : List ℕ) (here : Tally) (v to : ℕ) (ok : Bool) (e : to ≡ vmOf (roomOf s) v .target) (o : ok ≡ joinsIn s places dests here v to) where
@@ -132,18 +151,25 @@ dests-above (move ∷ moves) v h a =
 -- what the arrays give is what the step gives
 module _ (s places dests : List ℕ) (step : Step) (here : Tally) (v d : ℕ) (w : clusterCheck s ≡ Whole) (q : dests ≡ destsFrom step)
     (sound : soundStep (roomOf s) (held s places) step ≡ true)
-    (h : here ≡ tallyAt (roomOf s) d (allRunning (firstMoment (roomOf s) (held s places) step))) (t : v < vmCount s) (n : d < nodeCount s) where
+    (h : d < 64 → here ≡ tallyAt (roomOf s) d (allRunning (firstMoment (roomOf s) (held s places) step))) (t : v < vmCount s) (n : aims (roomOf s) v d ≡ true) where
+  -- the tally of what is no node is not asked for
+  same-bears : bears (roomOf s) d (withVm here (vmOf (roomOf s) v)) ≡
+      bears (roomOf s) d (withVm (tallyAt (roomOf s) d (allRunning (firstMoment (roomOf s) (held s places) step))) (vmOf (roomOf s) v))
+  unfolding bears
+  same-bears =
+      by-cases (decLt d 64) (λ l. ap (λ (x : Tally). bears (roomOf s) d (withVm x (vmOf (roomOf s) v))) (h l))
+      (λ l. rw (far-off (nodeCount s) d (nodes-most s w) (aims-place s v d n) (omega arith)))
+
   pub joins-is : joinsIn s places dests here v d ≡ joins (roomOf s) (held s places) step v d
   unfolding joinsIn joins
   joins-is =
       let vms = vms-count s in
-      let nodes = nodes-count s in
       rw (
         lt-ltb v (length (roomOf s .vms)) (omega arith),
-        lt-ltb d (length (roomOf s .nodes)) (omega arith),
+        n,
         held-at s places v t,
         eqb-sym d (getD places v 0),
-        h,
+        same-bears,
         q,
         running-is s places step w (sound-named (roomOf s) (held s places) step sound),
       )

@@ -10,10 +10,11 @@ use lib.Seq.{length-take-le, take-set-lt}
 use lib.Dec.{ltb, eqb}
 use borrow.Author.Tests.{lt-ltb, le-ltb, eq-eqb, ne-eqb, eqb-false, not-true}
 use Rattle.records.specs.Base.{pick, all}
-use Rattle.records.specs.Room.{Room, roomOf, vmOf, nodeCount, vmCount, clusterCheck}
+use Rattle.records.specs.Room.{Room, roomOf, vmOf, onNode, nodeCount, vmCount, clusterCheck}
 use Rattle.records.specs.Plan.{Step}
 use Rattle.records.specs.declared.faults.ClusterCheck.the-variants.{Whole}
 use Rattle.records.proofs.Laws.Cluster.{nodes-most, vms-most, vms-count, nodes-count}
+use Rattle.records.proofs.Laws.Rows.{near-node, near-on, far-off}
 use Rattle.rules.specs.Moments.{Placement, placeOf, targetOf, emptyTally}
 use Rattle.rules.specs.Orders.{some}
 use Rattle.rules.specs.Rules.{from, soundStep}
@@ -21,13 +22,14 @@ use Rattle.rules.specs.Inner.{held, Placed, destsFrom, Loads}
 use Rattle.rules.specs.declared.tally.Tally.{Tally}
 use Rattle.rules.proofs.Laws.Adding.{joins-tests, alone, empty-sound}
 use Rattle.rules.proofs.Laws.Fit.{held-at}
+use Rattle.rules.proofs.Laws.Named.{aims-node}
 use Rattle.rules.proofs.Laws.Places.{target-at}
 use Rattle.rules.proofs.Laws.Targets.{dests-none}
 use Rattle.planner.specs.Picks.{moving, away, canGo, directStep, pivotFirst, pivotStep, pivotAmong, orElse, vmsIn, nodesIn}
 use Rattle.planner.specs.Inner.{Rested, joinsIn, aside, pivotNode, comer, comesTo, usefulNode}
 use Rattle.planner.proofs.Laws.Direct.{direct-none}
 use Rattle.planner.proofs.Laws.Joining.{longer-sound}
-use Rattle.planner.proofs.Laws.Pivots.{pivot-among, useful-home, useful-nowhere, useful-found, useful-not}
+use Rattle.planner.proofs.Laws.Pivots.{pivot-among, useful-home, useful-down, useful-nobody, useful-found, useful-not}
 use Rattle.planner.proofs.Laws.Turning.{left-cons, left-none, rest-tally}
 
 -- ---- one VM alone
@@ -48,7 +50,7 @@ pub lone-sound : (s places dests : List ℕ) (here : Tally) (v d : ℕ) (r : Boo
     clusterCheck s ≡ Whole → v < vmCount s → d < nodeCount s → r ≡ soundStep (roomOf s) (held s places) (moving v d ∷ [])
 unfolding all
 lone-sound s places dests here v d r e q a w t n =
-    e ∙ sym (longer-sound s places dests [] here v d w (q ∙ sym dests-none) (empty-sound (roomOf s) (held s places)) (a .is) t n refl)
+    e ∙ sym (longer-sound s places dests [] here v d w (q ∙ sym dests-none) (empty-sound (roomOf s) (held s places)) (λ l. a .is) t (sym (aims-node s v d (nodeCount s) refl n)) refl)
 
 -- not to its target
 module _ (s places : List ℕ) (v d t : ℕ) (e : t ≡ vmOf (roomOf s) v .target) where
@@ -148,8 +150,8 @@ pub held-length : (s places : List ℕ) → length places ≡ 256 → clusterChe
 unfolding held
 held-length s places z w = let m = vms-most s w in length-take-le (vmCount s) places (omega arith) ∙ sym (vms-count s)
 
-pub place-there : (s places : List ℕ) (v p : ℕ) → p ≡ getD places v 0 → Placed s places → p < nodeCount s
-place-there s places v p e b = rw e (b .below v)
+pub place-there : (s places : List ℕ) (v p : ℕ) → p ≡ getD places v 0 → clusterCheck s ≡ Whole → Placed s places → p < 64 → p < nodeCount s
+place-there s places v p e w b h = near-node (nodeCount s) p (nodes-most s w) (rw e (b .each v)) h
 
 module _ (s places : List ℕ) (v n p t : ℕ) (b : Placed s places) (q : n ≡ nodeCount s) (e : p ≡ getD places v 0) (f : t ≡ vmOf (roomOf s) v .target) (w : clusterCheck s ≡ Whole) (h : v < vmCount s) where
   nodes-are : n ≡ length (roomOf s .nodes)
@@ -165,9 +167,13 @@ module _ (s places : List ℕ) (v n p t : ℕ) (b : Placed s places) (q : n ≡ 
   pub useful-kept : p ≡ t → n ≡ usefulNode (roomOf s) (held s places) v (nodesIn (roomOf s))
   useful-kept g = nodes-are ∙ useful-home (roomOf s) (held s places) v (away-is ∙ ap not (eq-eqb p t g))
 
-  module _ (g : p ≡ t → ⊥) (d : ℕ) (x : d ≡ pivotNode (roomOf s) (held s places) v (nodesIn (roomOf s))) where
+  -- a VM on no node is not pivoted
+  pub useful-off : 64 ≤ p → n ≡ usefulNode (roomOf s) (held s places) v (nodesIn (roomOf s))
+  useful-off k = nodes-are ∙ useful-down (roomOf s) (held s places) v (ap onNode place-is ∙ far-off (nodeCount s) p (nodes-most s w) (rw e (b .each v)) k)
+
+  module _ (g : p ≡ t → ⊥) (up : p < 64) (d : ℕ) (x : d ≡ pivotNode (roomOf s) (held s places) v (nodesIn (roomOf s))) where
     pub useful-lost : n ≤ d → n ≡ usefulNode (roomOf s) (held s places) v (nodesIn (roomOf s))
-    useful-lost k = let a = nodes-are in a ∙ useful-nowhere (roomOf s) (held s places) v d x (omega arith)
+    useful-lost k = let a = nodes-are in a ∙ useful-nobody (roomOf s) (held s places) v d x (omega arith)
 
     module _ (ok : Bool) (o : ok ≡ comesTo (roomOf s) (held s (set places v d)) v p (vmsIn (roomOf s)))
         (y : directStep (roomOf s) (held s places) ≡ []) (k : d < n) (z : length places ≡ 256) where
@@ -177,15 +183,18 @@ module _ (s places : List ℕ) (v n p t : ℕ) (b : Placed s places) (q : n ≡ 
       is-away : away (roomOf s) (held s places) v ≡ true
       is-away = away-is ∙ ap not (ne-eqb p t g)
 
+      is-up : onNode (placeOf (held s places) v) ≡ true
+      is-up = ap onNode place-is ∙ near-on (nodeCount s) p (nodes-most s w) (rw e (b .each v)) up
+
       pub useful-yes : ok ≡ true → d ≡ usefulNode (roomOf s) (held s places) v (nodesIn (roomOf s))
       useful-yes c =
           let a = nodes-are in
-          useful-found (roomOf s) (held s places) v (held-length s places z w) (direct-none (roomOf s) (held s places) y) d (set (held s places) v d) ok x refl ok-is is-away (omega arith) c
+          useful-found (roomOf s) (held s places) v (held-length s places z w) (direct-none (roomOf s) (held s places) y) d (set (held s places) v d) ok x refl ok-is is-away is-up (omega arith) c
 
       pub useful-no : ok ≡ false → n ≡ usefulNode (roomOf s) (held s places) v (nodesIn (roomOf s))
       useful-no c =
           let a = nodes-are in
-          a ∙ useful-not (roomOf s) (held s places) v (held-length s places z w) (direct-none (roomOf s) (held s places) y) d (set (held s places) v d) ok x refl ok-is is-away (omega arith) c
+          a ∙ useful-not (roomOf s) (held s places) v (held-length s places z w) (direct-none (roomOf s) (held s places) y) d (set (held s places) v d) ok x refl ok-is is-away is-up (omega arith) c
 
 -- ---- the first VM
 

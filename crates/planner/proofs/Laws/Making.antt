@@ -1,6 +1,6 @@
 -- Laws on the steps as they are made and written: the next step, and one turn after the other.
 use Prim.Native.Nat.{ℕ, zero, suc, _+_, _*_, _≤_, _<_}
-use mathlib.Core.Bool.{Bool, true, false, false≢true}
+use mathlib.Core.Bool.{Bool, true, false, _&&_, _||_, false≢true}
 use mathlib.Core.List.{List, [], _∷_, _++_, append-assoc, append-nil}
 use mathlib.Core.Logic.{by-cases}
 use mathlib.Core.Path.{_≡_, refl, sym, ap, ap₂, _∙_}
@@ -8,27 +8,27 @@ use native.Mathlib.Decide.{ℕ-discrete}
 use native.Mathlib.Omega.{arith}
 use lib.ListN.{length, getD, set, length-append, getD-replicate}
 use lib.Seq.{getD-set-same, getD-set-other}
-use lib.Dec.{ltb}
-use borrow.Author.Tests.{ltb-true, lt-ltb}
+use lib.Dec.{ltb, eqb}
+use borrow.Author.Tests.{ltb-true, lt-ltb, eqb-true}
 use mir.Syntax.{w64}
 use mir.Val.{Fits}
 use Rattle.records.specs.Base.{all, sumOf}
 use Rattle.records.specs.Bytes.{bytes16}
-use Rattle.records.specs.Room.{Room, roomOf, vmCount, clusterCheck}
+use Rattle.records.specs.Room.{Room, nowhere, roomOf, vmCount, clusterCheck}
 use Rattle.records.specs.Plan.{Step, withSources, moveTotal, shaped, movesBytes, stepBytes, stepsBytes, written, writtenWidth}
 use Rattle.records.specs.Inner.{tellsSources}
 use Rattle.records.specs.declared.faults.ClusterCheck.the-variants.{Whole}
 use Rattle.records.proofs.Laws.Cluster.{nodes-most, vms-most, vms-count, nodes-count}
 use Rattle.records.proofs.Laws.RoundTrip.{moves-length, steps-bytes-length}
 use Rattle.records.proofs.Laws.Written.{written-next, written-earlier, written-length}
-use Rattle.rules.specs.Moments.{Placement, currentOf, after}
-use Rattle.rules.specs.Rules.{named, soundStep}
+use Rattle.rules.specs.Moments.{Placement, placeOf, currentOf, targetOf, after}
+use Rattle.rules.specs.Rules.{aims, named, soundStep}
 use Rattle.rules.specs.Verdict.{home}
 use Rattle.rules.specs.Promises.{afterAll}
 use Rattle.rules.specs.Inner.{held, Placed, arrayOf, destsFrom}
 use Rattle.rules.proofs.Laws.Fit.{dests-length}
-use Rattle.rules.proofs.Laws.Orders.{named-least, named-vm, named-node, named-off, named-rest, named-cons, after-length}
-use Rattle.records.proofs.Laws.Bools.{and-both}
+use Rattle.rules.proofs.Laws.Orders.{named-least, named-vm, named-sends, named-off, named-rest, named-cons, after-length}
+use Rattle.records.proofs.Laws.Bools.{and-left, and-both}
 use Rattle.rules.proofs.Laws.Adding.{all-snoc}
 use Rattle.rules.proofs.Laws.Runs.{after-all-snoc}
 use Rattle.rules.proofs.Laws.Places.{current-holds}
@@ -51,6 +51,15 @@ moves-same : (a b : List ℕ) (k n : ℕ) → ((i : ℕ) → k ≤ i → getD a 
 unfolding movesIn
 moves-same a b k zero e = refl
 moves-same a b k (suc n) e = ap₂ (λ (d : ℕ) (rest : Step). moveIn k d ++ rest) (e k (omega arith)) (moves-same a b (suc k) n (λ i h. e i (omega arith)))
+
+-- no VM is sent to what stands for no move
+aims-64 : (room : Room) (v d : ℕ) → length (room .nodes) ≤ 64 → aims room v d ≡ true → d ≡ 64 → ⊥
+unfolding aims
+aims-64 room v d few e z = go (ltb d (length (room .nodes))) refl e
+  where
+    go : (b : Bool) → ltb d (length (room .nodes)) ≡ b → (b || (eqb d nowhere && eqb (placeOf (targetOf room) v) nowhere)) ≡ true → ⊥
+    go true t h = let l = ltb-true d (length (room .nodes)) t in omega arith
+    go false t h = let q : d ≡ 255 = eqb-true d nowhere (and-left (eqb d nowhere) (eqb (placeOf (targetOf room) v) nowhere) h) in omega arith
 
 module _ (room : Room) (places : Placement) (few : length (room .nodes) ≤ 64) (most : length (room .vms) ≤ 256) where
   -- no VM below the first has a destination
@@ -76,7 +85,7 @@ module _ (room : Room) (places : Placement) (few : length (room .nodes) ≤ 64) 
       by-cases (ℕ-discrete (move .vm) k) (own (λ r. moves-from n (suc k) (suc k) moves (omega arith) (omega arith) r))
       (λ q. let l = named-least room places least move moves m in
       let up : suc k ≤ move .vm = omega arith in
-      let again = named-cons room places (suc k) move moves up (named-vm room places least move moves m) (named-node room places least move moves m)
+      let again = named-cons room places (suc k) move moves up (named-vm room places least move moves m) (named-sends room places least move moves m)
       (named-off room places least move moves m) (named-rest room places least move moves m) in
       ap₂ (λ (x y : Step). x ++ y) (move-none k (getD (destsFrom (move ∷ moves)) k 0) (dests-low (suc k) (move ∷ moves) k again (omega arith) (omega arith)))
       (moves-from n (suc k) (suc k) (move ∷ moves) (omega arith) (omega arith) again))
@@ -84,12 +93,12 @@ module _ (room : Room) (places : Placement) (few : length (room .nodes) ≤ 64) 
       own : (named room places (suc k) moves ≡ true → movesIn (destsFrom moves) (suc k) n ≡ bare moves) → move .vm ≡ k →
           movesIn (destsFrom (move ∷ moves)) k (suc n) ≡ bare (move ∷ moves)
       own more q =
-          let b = named-node room places least move moves m in
+          let b = aims-64 room (move .vm) (move .to) few (named-sends room places least move moves m) in
           let here : getD (set (destsFrom moves) (move .vm) (move .to)) k 0 ≡ move .to =
           ap (λ (i : ℕ). getD (set (destsFrom moves) i (move .to)) k 0) q ∙ getD-set-same (destsFrom moves) k (move .to) 0 (rw (dests-length moves) (omega arith)) in
           let rest : named room places (suc k) moves ≡ true = rw q at (named-rest room places least move moves m) in
           ap₂ (λ (x y : Step). x ++ y)
-          (ap (moveIn k) here ∙ move-one k (move .to) (λ z. omega arith) ∙ ap (λ (i : ℕ). moving i (move .to) ∷ []) (sym q))
+          (ap (moveIn k) here ∙ move-one k (move .to) b ∙ ap (λ (i : ℕ). moving i (move .to) ∷ []) (sym q))
           (moves-same (set (destsFrom moves) (move .vm) (move .to)) (destsFrom moves) (suc k) n (λ i l. getD-set-other (destsFrom moves) (move .vm) i (move .to) 0 (λ z. omega arith)) ∙
           more rest)
 

@@ -12,12 +12,13 @@ use lib.Seq.{drop-cons, getD-set-same, getD-set-other}
 use lib.Dec.{ltb, eqb}
 use borrow.Author.Tests.{lt-ltb, eq-eqb, ne-eqb, ltb-true}
 use Rattle.records.specs.Base.{pick, all}
-use Rattle.records.specs.Room.{Constraint, ban, fence, spread, latency, kindOf, vmsOf, has, Room, roomOf, vmCount, nodeCount, constraintsStart, constraintCount, partAt, partsFrom, constraintOf, rises, listOk, constraintOk, filled, wellFormed, clusterCheck}
+use Rattle.records.specs.Room.{Constraint, ban, fence, spread, latency, kindOf, vmsOf, onNode, has, Room, roomOf, vmCount, nodeCount, constraintsStart, constraintCount, partAt, partsFrom, constraintOf, rises, listOk, constraintOk, filled, wellFormed, clusterCheck}
 use Rattle.records.specs.Inner.{Parts}
 use Rattle.records.specs.declared.constraints.Kind.{Kind}
 use Rattle.records.specs.declared.constraints.Kind.the-variants.{Ban, Fence, Spread, Latency}
 use Rattle.records.specs.declared.faults.ClusterCheck.the-variants.{Whole}
-use Rattle.records.proofs.Laws.Bools.{and-left, and-right, all-head, all-tail}
+use Rattle.records.proofs.Laws.Rows.{node-on}
+use Rattle.records.proofs.Laws.Bools.{and-left, and-right, pick-same, all-head, all-tail}
 use Rattle.records.proofs.Laws.Cluster.{vms-most}
 use Rattle.records.proofs.Laws.Walk.{constraints-are, walk-start, walk-cons, vms-sound}
 use Rattle.records.proofs.Laws.Parts.{parts-step}
@@ -218,7 +219,7 @@ meets-suc : (room : Room) (places dests : List ℕ) (w n v d : ℕ) → d < 64 �
     meetsMate room (busyFrom places dests w (suc n)) v d ≡
     ((mates room v w && (eqb (getD places w 0) d || eqb (getD dests w 0) d)) || meetsMate room (busyFrom places dests (suc w) n) v d)
 unfolding meetsMate busyFrom some
-meets-suc room places dests w n v d h = rw (counts-is dests w (getD places w 0) d h)
+meets-suc room places dests w n v d h = rw (node-on 64 d (omega arith) h, counts-is dests w (getD places w 0) d h)
 
 mark-false : (b : Bool) → _≡_ {A = ℕ} (pick b 1 0) 0 → b ≡ false
 mark-false true e = absurd (omega arith)
@@ -234,7 +235,7 @@ meets-start s places dests v d n e = let z : n - 0 ≡ vmCount s = omega arith i
 
 pub meets-end : (s places dests : List ℕ) (v d n w : ℕ) (result : Bool) → meetsMate (roomOf s) (busyFrom places dests w (n - w)) v d ≡ result → n ≤ w → false ≡ result
 unfolding meetsMate busyFrom some
-meets-end s places dests v d n w result inv h = let z : n - w ≡ 0 = omega arith in rw z at inv
+meets-end s places dests v d n w result inv h = let z : n - w ≡ 0 = omega arith in sym (pick-same (onNode d) false) ∙ rw z at inv
 
 module _ (s pairs places dests : List ℕ) (v d n w : ℕ) (result : Bool) (e : n ≡ vmCount s) (inv : meetsMate (roomOf s) (busyFrom places dests w (n - w)) v d ≡ result)
     (p : Pairs s pairs) (hv : v < vmCount s) (hd : d < 64) (hw : w < n) where

@@ -1,4 +1,5 @@
--- Laws on pivots: the step that is picked; and, where no direct move is sound, that a pivot of a VM helps to whichever node it goes, or to none.
+-- Laws on pivots: the step that is picked; and, where no direct move is sound, that a pivot of a VM helps at every node that it may go to, or at none
+-- of them.
 use Prim.Native.Nat.{ℕ, zero, suc, _+_, _≤_, _<_}
 use mathlib.Core.Bool.{Bool, true, false, not, _&&_, _||_, or-true, and-true, and-false, false≢true}
 use mathlib.Core.List.{List, [], _∷_}
@@ -11,14 +12,14 @@ use lib.Seq.{getD-set-same, getD-set-other}
 use lib.Dec.{ltb, eqb}
 use borrow.Author.Tests.{ltb-true, lt-ltb, le-ltb, eqb-true, eqb-false, eq-eqb, not-true}
 use Rattle.records.specs.Base.{pick, all}
-use Rattle.records.specs.Room.{Room, Node, vmOf, nodeOf}
+use Rattle.records.specs.Room.{Room, vmOf, nowhere, onNode}
 use Rattle.records.specs.Plan.{Move, Step}
 use Rattle.records.proofs.Laws.Bools.{and-left, and-right, and-both, bool-iff, all-head, all-tail}
-use Rattle.rules.specs.Moments.{Placement, placeOf, targetOf, after, within, withVm, idle, cell, Moment, countsOn, tallyAt, phaseOf, cellsFrom, firstMoment, begun, allRunning}
+use Rattle.rules.specs.Moments.{Placement, placeOf, targetOf, after, bears, withVm, idle, cell, Moment, countsOn, tallyAt, phaseOf, cellsFrom, firstMoment, begun, allRunning}
 use Rattle.rules.specs.Orders.{some, meetsMate}
-use Rattle.rules.specs.Rules.{from, soundStep}
+use Rattle.rules.specs.Rules.{from, aims, soundStep}
 use Rattle.rules.proofs.Laws.Meet.{is-false}
-use Rattle.rules.proofs.Laws.Orders.{never, Under, empty, both, meets-under, within-under}
+use Rattle.rules.proofs.Laws.Orders.{never, Under, empty, both, meets-under, bears-under}
 use Rattle.rules.proofs.Laws.Adding.{joins, Joins, joins-tests, alone, empty-sound}
 use Rattle.planner.specs.Picks.{vmsIn, nodesIn, away, moving, canGo, otherGoes, useful, orElse, pivotAmong, pivotFirst, pivotStep}
 use Rattle.planner.specs.Inner.{aside, pivotNode, comer, comesTo, usefulNode}
@@ -56,26 +57,47 @@ module _ (room : Room) (places : Placement) (v d : ℕ) where
   sound-alone : soundStep room places (moving v d ∷ []) ≡ true → Joins room places [] v d
   sound-alone s = joins-tests room places [] v d (sym (alone room places v d) ∙ s)
 
-  -- useful by three tests: that d is not v's place is part of being sound
-  useful-is : useful room places v d ≡ (away room places v && (aside room places v d && otherGoes room (after places (moving v d ∷ [])) v))
+  -- a sound move that is not to the target is to a node
+  aside-node : not (eqb d (placeOf (targetOf room) v)) ≡ true → soundStep room places (moving v d ∷ []) ≡ true → ltb d (length (room .nodes)) ≡ true
+  unfolding aims
+  aside-node t s = go (ltb d (length (room .nodes))) (sound-alone s .aimed)
+    where
+      go : (b : Bool) → (b || (eqb d nowhere && eqb (placeOf (targetOf room) v) nowhere)) ≡ true → b ≡ true
+      go true e = refl
+      go false e =
+          let x = eqb-true d nowhere (and-left (eqb d nowhere) (eqb (placeOf (targetOf room) v) nowhere) e) in
+          let y = eqb-true (placeOf (targetOf room) v) nowhere (and-right (eqb d nowhere) (eqb (placeOf (targetOf room) v) nowhere) e) in
+          absurd (eqb-false d (placeOf (targetOf room) v) (not-true (eqb d (placeOf (targetOf room) v)) t) (x ∙ sym y))
+
+  -- useful by four tests: that d is a node, and not v's place, is part of being sound
+  useful-is : useful room places v d ≡ ((away room places v && onNode (placeOf places v)) && (aside room places v d && otherGoes room (after places (moving v d ∷ [])) v))
   unfolding useful aside
   useful-is =
-      ordered (away room places v) (not (eqb d (placeOf places v))) (not (eqb d (placeOf (targetOf room) v))) (soundStep room places (moving v d ∷ []))
-      (otherGoes room (after places (moving v d ∷ [])) v) (λ s. sound-alone s .off)
+      ordered (away room places v && onNode (placeOf places v)) (ltb d (length (room .nodes))) (not (eqb d (placeOf places v))) (not (eqb d (placeOf (targetOf room) v)))
+      (soundStep room places (moving v d ∷ [])) (otherGoes room (after places (moving v d ∷ [])) v) (λ s. sound-alone s .off) aside-node
     where
-      ordered : (a o t s g : Bool) → (s ≡ true → o ≡ true) → ((a && (o && t)) && (s && g)) ≡ (a && ((t && s) && g))
-      ordered false o t s g h = refl
-      ordered true true true s g h = refl
-      ordered true true false s g h = refl
-      ordered true false t true g h = absurd (false≢true (h refl))
-      ordered true false true false g h = refl
-      ordered true false false false g h = refl
+      ordered : (a n o t s g : Bool) → (s ≡ true → o ≡ true) → (t ≡ true → s ≡ true → n ≡ true) → ((a && (n && (o && t))) && (s && g)) ≡ (a && ((t && s) && g))
+      ordered false n o t s g h k = refl
+      ordered true true true true s g h k = refl
+      ordered true true true false s g h k = refl
+      ordered true true false t true g h k = absurd (false≢true (h refl))
+      ordered true true false true false g h k = refl
+      ordered true true false false false g h k = refl
+      ordered true false o true true g h k = absurd (false≢true (k refl refl))
+      ordered true false o true false g h k = refl
+      ordered true false o false s g h k = refl
+
+  pub useful-node : useful room places v d ≡ true → d < length (room .nodes)
+  unfolding useful
+  useful-node u =
+      ltb-true d (length (room .nodes)) (and-left (ltb d (length (room .nodes))) _ (and-right (away room places v && onNode (placeOf places v)) _
+      (and-left ((away room places v && onNode (placeOf places v)) && (ltb d (length (room .nodes)) && (not (eqb d (placeOf places v)) && not (eqb d (placeOf (targetOf room) v))))) _ u)))
 
   pub useful-sound : useful room places v d ≡ true → soundStep room places (moving v d ∷ []) ≡ true
   unfolding aside
   useful-sound u =
       and-right (not (eqb d (placeOf (targetOf room) v))) (soundStep room places (moving v d ∷ []))
-      (and-left (aside room places v d) (otherGoes room (after places (moving v d ∷ [])) v) (and-right (away room places v) _ (sym useful-is ∙ u)))
+      (and-left (aside room places v d) (otherGoes room (after places (moving v d ∷ [])) v) (and-right (away room places v && onNode (placeOf places v)) _ (sym useful-is ∙ u)))
 
 -- a step is one useful pivot
 pub record IsPivot (room : Room) (places : Placement) (move : Move) (moves : Step) : Type 0 where
@@ -182,7 +204,7 @@ module _ (room : Room) (places : Placement) where
   pub no-pivot : pivotStep room places ≡ [] → (v d : ℕ) → useful room places v d ≡ false
   no-pivot e v d =
       is-false (useful room places v d)
-      (λ u. let j = sound-alone room places v d (useful-sound room places v d u) in false≢true (sym (pivot-none e v d (j .vm-there) (j .node-there)) ∙ u))
+      (λ u. let j = sound-alone room places v d (useful-sound room places v d u) in false≢true (sym (pivot-none e v d (j .vm-there) (useful-node room places v d u)) ∙ u))
 
   pub none-pivot : ((v d : ℕ) → useful room places v d ≡ false) → pivotStep room places ≡ []
   unfolding pivotStep pivotFirst orElse
@@ -208,10 +230,10 @@ with-one : (room : Room) (d v : ℕ) (cs : Moment) → tallyAt room d (cell v d 
 unfolding tallyAt countsOn
 with-one room d v cs = rw (eq-eqb d d refl)
 
-fit-under : {d : ℕ} {cs bs : Moment} (room : Room) (node : Node) (v : ℕ) → Under d cs bs →
-    within node (withVm (tallyAt room d bs) (vmOf room v)) ≡ true → within node (withVm (tallyAt room d cs) (vmOf room v)) ≡ true
-fit-under {d} {cs} {bs} room node v u e =
-    rw (← with-one room d v cs) (within-under room node (both {v = v} {p = d} {q = d} {x = idle} {y = idle} (λ h. h) u) (ap (within node) (with-one room d v bs) ∙ e))
+fit-under : {d : ℕ} {cs bs : Moment} (room : Room) (v : ℕ) → Under d cs bs →
+    bears room d (withVm (tallyAt room d bs) (vmOf room v)) ≡ true → bears room d (withVm (tallyAt room d cs) (vmOf room v)) ≡ true
+fit-under {d} {cs} {bs} room v u e =
+    rw (← with-one room d v cs) (bears-under room (both {v = v} {p = d} {q = d} {x = idle} {y = idle} (λ h. h) u) (ap (bears room d) (with-one room d v bs) ∙ e))
 
 module _ (room : Room) (p q : Placement) (u : ℕ) (same : placeOf p u ≡ placeOf q u) where
   -- a sound move of u at p is sound at q, if q has no VM more on its destination
@@ -220,8 +242,8 @@ module _ (room : Room) (p q : Placement) (u : ℕ) (same : placeOf p u ≡ place
   joins-too d s e =
       let j = joins-tests room p [] u d e in
       let under = rest-under d q p s 0 (length (room .vms)) in
-      and-both (and-both (lt-ltb u (length (room .vms)) (j .vm-there)) (and-both (lt-ltb d (length (room .nodes)) (j .node-there)) (rw (← same) (j .off))))
-      (and-both (j .allows) (and-both (fit-under room (nodeOf room d) u under (j .fit))
+      and-both (and-both (lt-ltb u (length (room .vms)) (j .vm-there)) (and-both (j .aimed) (rw (← same) (j .off))))
+      (and-both (j .allows) (and-both (fit-under room u under (j .fit))
       (ap not (is-false (meetsMate room (allRunning (firstMoment room q [])) u d) (λ m. false≢true (sym (j .apart) ∙ meets-under room u under m))))))
 
   goes-too : Stays (placeOf (targetOf room) u) q p → canGo room p u ≡ true → canGo room q u ≡ true
@@ -231,7 +253,7 @@ module _ (room : Room) (p q : Placement) (u : ℕ) (same : placeOf p u ≡ place
       and-both (rw same at (and-left (not (eqb (placeOf p u) d)) (soundStep room p (moving u d ∷ [])) e))
       (alone room q u d ∙ joins-too d s (sym (alone room p u d) ∙ and-right (not (eqb (placeOf p u) d)) (soundStep room p (moving u d ∷ [])) e))
 
--- ---- where no direct move is sound, a pivot of v helps to whichever node it goes, or to none
+-- ---- where no direct move is sound, a pivot of v helps at every node that it may go to, or at none of them
 
 module _ (room : Room) (places : Placement) (v : ℕ) where
   -- the placement that a pivot leaves
@@ -338,7 +360,7 @@ module _ (room : Room) (places : Placement) (v : ℕ) where
           (length (room .nodes) ≤ pivotNode room places v ds → length (room .nodes) ≡ usefulNode room places v ds) →
           length (room .nodes) ≡ pick (useful room places v d) d (usefulNode room places v ds)
       go true e l h later = absurd (omega arith)
-      go false e l h later = rw (useful-is room places v d, e, and-false (away room places v)) (later h)
+      go false e l h later = rw (useful-is room places v d, e, and-false (away room places v && onNode (placeOf places v))) (later h)
 
   useful-none : ((d : ℕ) → useful room places v d ≡ false) → (ds : List ℕ) → length (room .nodes) ≡ usefulNode room places v ds
   unfolding usefulNode
@@ -348,12 +370,15 @@ module _ (room : Room) (places : Placement) (v : ℕ) where
   pub useful-home : away room places v ≡ false → length (room .nodes) ≡ usefulNode room places v (nodesIn room)
   useful-home a = useful-none (λ d. useful-is room places v d ∙ rw a) (nodesIn room)
 
-  pub useful-nowhere : (d : ℕ) → d ≡ pivotNode room places v (nodesIn room) → length (room .nodes) ≤ d → length (room .nodes) ≡ usefulNode room places v (nodesIn room)
-  useful-nowhere d e h = none-aside (nodesIn room) (nodes-below room) (rw (← e) h)
+  pub useful-down : onNode (placeOf places v) ≡ false → length (room .nodes) ≡ usefulNode room places v (nodesIn room)
+  useful-down o = useful-none (λ d. useful-is room places v d ∙ rw (o, and-false (away room places v))) (nodesIn room)
+
+  pub useful-nobody : (d : ℕ) → d ≡ pivotNode room places v (nodesIn room) → length (room .nodes) ≤ d → length (room .nodes) ≡ usefulNode room places v (nodesIn room)
+  useful-nobody d e h = none-aside (nodesIn room) (nodes-below room) (rw (← e) h)
 
   module _ (len : length places ≡ length (room .vms)) (none : (u : ℕ) → canGo room places u ≡ false) (d : ℕ) (then : Placement) (ok : Bool)
       (at : d ≡ pivotNode room places v (nodesIn room)) (m : then ≡ set places v d) (c : ok ≡ comesTo room then v (placeOf places v) (vmsIn room))
-      (a : away room places v ≡ true) (h : d < length (room .nodes)) where
+      (a : away room places v ≡ true) (o : onNode (placeOf places v) ≡ true) (h : d < length (room .nodes)) where
     -- the pivot to the node found tells of the others
     helps-as : (e : ℕ) → soundStep room places (moving v e ∷ []) ≡ true → otherGoes room (after places (moving v e ∷ [])) v ≡ ok
     unfolding after
@@ -364,7 +389,7 @@ module _ (room : Room) (places : Placement) (v : ℕ) where
     useful-as : (e : ℕ) → useful room places v e ≡ (aside room places v e && ok)
     unfolding aside
     useful-as e =
-        useful-is room places v e ∙ rw a (given (aside room places v e) (otherGoes room (after places (moving v e ∷ [])) v)
+        useful-is room places v e ∙ rw (a, o) (given (aside room places v e) (otherGoes room (after places (moving v e ∷ [])) v)
         (λ s. helps-as e (and-right (not (eqb e (placeOf (targetOf room) v))) (soundStep room places (moving v e ∷ [])) s)))
       where
         given : (b g : Bool) → (b ≡ true → g ≡ ok) → (b && g) ≡ (b && ok)
@@ -372,7 +397,7 @@ module _ (room : Room) (places : Placement) (v : ℕ) where
         given false g e = refl
 
     pub useful-found : ok ≡ true → d ≡ usefulNode room places v (nodesIn room)
-    useful-found o = at ∙ first-aside (λ e. useful-as e ∙ rw o (and-true (aside room places v e))) (nodesIn room)
+    useful-found x = at ∙ first-aside (λ e. useful-as e ∙ rw x (and-true (aside room places v e))) (nodesIn room)
 
     pub useful-not : ok ≡ false → length (room .nodes) ≡ usefulNode room places v (nodesIn room)
-    useful-not o = useful-none (λ e. useful-as e ∙ rw o (and-false (aside room places v e))) (nodesIn room)
+    useful-not x = useful-none (λ e. useful-as e ∙ rw x (and-false (aside room places v e))) (nodesIn room)

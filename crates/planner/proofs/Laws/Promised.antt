@@ -10,12 +10,12 @@ use lib.Seq.{take-at}
 use lib.Dec.{ltb, eqb}
 use borrow.Author.Tests.{le-ltb, not-true, ltb-false, not-false, ne-eqb, eqb-false}
 use Rattle.records.specs.Base.{pick, all}
-use Rattle.records.specs.Bytes.{be32, bytes16, bytes32, AreBytes}
+use Rattle.records.specs.Bytes.{be32, bytes16, bytes32, versionOf, AreBytes}
 use Rattle.records.specs.Room.{Room, roomOf, clusterCheck}
-use Rattle.records.specs.Plan.{Step, versionOf, moveTotal, stepsOf, shaped, planCheck, stepsBytes, headerBytes, planBytes}
+use Rattle.records.specs.Plan.{Step, moveTotal, stepsOf, shaped, planCheck, stepsBytes, headerBytes, planBytes}
 use Rattle.records.specs.Inner.{tellsSources}
 use Rattle.records.specs.declared.faults.ClusterCheck.{ClusterCheck}
-use Rattle.records.proofs.Laws.Cluster.{vms-most, vms-count}
+use Rattle.records.proofs.Laws.Cluster.{nodes-most, nodes-count, vms-most, vms-count}
 use Rattle.records.proofs.Laws.RoundTrip.{plan-length, plan-size, plan-whole, version-is, steps-of-plan, header-is, be32-back}
 use Rattle.rules.specs.Moments.{Placement, placeOf, currentOf, targetOf, after}
 use Rattle.rules.specs.Orders.{Run}
@@ -33,6 +33,7 @@ use Rattle.rules.proofs.Laws.Returned.{says-accepted, says-refused}
 use Rattle.rules.proofs.Laws.Runs.{sound-all-named, run-ends, run-obeys, sound-orders, stays-within}
 use Rattle.rules.proofs.Laws.Sources.{names-places}
 use Rattle.rules.proofs.Laws.Spreads.{stays-apart}
+use Rattle.rules.proofs.Laws.Running.{keeps-running}
 use Rattle.rules.proofs.Laws.Verdicts.{current-length, off-some, off-home}
 use Rattle.planner.specs.Picks.{away, directStep, pivotStep, orElse, nextStep, Picks}
 use Rattle.planner.specs.Answer.{stepsFor, madeOf, outcome, answerCluster, answerTarget, answerOf, bufferOf, frontOf, packedAnswer, leastBuffer}
@@ -137,6 +138,9 @@ module _ (cluster before : List ℕ) (t : Taken cluster before) where
   few : length (roomOf cluster .vms) ≤ 256
   few = let a = vms-count cluster in let b = vms-most cluster (t .cluster-whole) in omega arith
 
+  nodes-few : length (roomOf cluster .nodes) ≤ 64
+  nodes-few = rw (nodes-count cluster) (nodes-most cluster (t .cluster-whole))
+
   picks-are : Picks (roomOf cluster) (currentOf (roomOf cluster)) (stepsFor (roomOf cluster))
   unfolding stepsFor
   picks-are = picks-steps (roomOf cluster) (currentOf (roomOf cluster)) (current-length (roomOf cluster))
@@ -180,8 +184,9 @@ module _ (cluster before : List ℕ) (t : Taken cluster before) where
         well-sourced = rw e steps-sourced;
         obeys = rw e (λ last run. run-obeys steps-sound (current-length (roomOf cluster)) run);
         reaches = rw e (λ last run. ends-there run);
-        auditor = rw e (stays-within (roomOf cluster) (currentOf (roomOf cluster)) (stepsFor (roomOf cluster)) steps-sound (current-length (roomOf cluster)));
+        auditor = rw e (stays-within (roomOf cluster) (currentOf (roomOf cluster)) (stepsFor (roomOf cluster)) nodes-few steps-sound (current-length (roomOf cluster)));
         apart = rw e (stays-apart (roomOf cluster) (currentOf (roomOf cluster)) (stepsFor (roomOf cluster)) steps-sound (current-length (roomOf cluster)));
+        running = rw e (keeps-running (roomOf cluster) (currentOf (roomOf cluster)) (stepsFor (roomOf cluster)) nodes-few (sound-all-named (roomOf cluster) (currentOf (roomOf cluster)) (stepsFor (roomOf cluster)) steps-sound) (current-length (roomOf cluster)));
         none = λ z. e ∙ empty (stepsFor (roomOf cluster)) (let b = budget-none (roomOf cluster) (currentOf (roomOf cluster)) z in omega arith);
         short = λ z. rw e (let b = budget-most (roomOf cluster) (currentOf (roomOf cluster)) z in omega arith);
         version = ap versionOf p ∙ version-is (stepsFor (roomOf cluster)) steps-tell steps-shaped;

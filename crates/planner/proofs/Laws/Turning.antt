@@ -1,8 +1,8 @@
 -- Laws on the pass that makes the direct step: the array of destinations and the sums, VM by VM.
 use Prim.Native.Nat.{ℕ, suc, _+_, _-_, _*_, _≤_, _<_}
-use mathlib.Core.Bool.{Bool, true, false, not, _&&_, and-false}
+use mathlib.Core.Bool.{Bool, true, false, not, _&&_, and-false, or-true}
 use mathlib.Core.List.{List, [], _∷_, _++_}
-use mathlib.Core.Logic.{by-cases}
+use mathlib.Core.Logic.{⊎-elim, by-cases}
 use mathlib.Core.Path.{_≡_, refl, sym, ap, ap₂, _∙_}
 use native.Mathlib.Decide.{ℕ-discrete}
 use native.Mathlib.Nat.{sub-zero}
@@ -11,23 +11,21 @@ use native.Mathlib.Omega.{arith}
 use lib.ListN.{length, getD, set, replicate, length-set}
 use lib.Seq.{set-getD, getD-set-same, getD-set-other}
 use lib.Dec.{ltb, eqb}
-use borrow.Author.Tests.{lt-ltb, ltb-true, ne-eqb, eqb-false, not-true}
-use mir.Syntax.{w64}
-use mir.Val.{Fits}
+use borrow.Author.Tests.{lt-ltb, ltb-true, eq-eqb, ne-eqb, eqb-false, not-true}
 use Rattle.records.specs.Base.{pick, all}
-use Rattle.records.specs.Room.{roomOf, vmOf, nodeCount, vmCount, clusterCheck}
+use Rattle.records.specs.Room.{roomOf, vmOf, nowhere, nodeCount, vmCount, clusterCheck}
 use Rattle.records.specs.Plan.{Step}
 use Rattle.records.specs.declared.faults.ClusterCheck.the-variants.{Whole}
 use Rattle.records.proofs.Laws.Bools.{and-both}
-use Rattle.records.proofs.Laws.Cluster.{nodes-most, vms-most, vms-count}
+use Rattle.records.proofs.Laws.Cluster.{vms-most, vms-count, nodes-count, vm-target-place}
+use Rattle.records.proofs.Laws.Rows.{place-either}
 use Rattle.rules.specs.Moments.{placeOf, targetOf, emptyTally, withVm, tallyAt, firstMoment, allRunning}
-use Rattle.rules.specs.Rules.{from, soundStep}
+use Rattle.rules.specs.Rules.{from, aims, soundStep}
 use Rattle.rules.specs.Inner.{NeedOf, held, destsFrom, busyFrom, Loads}
 use Rattle.rules.specs.declared.tally.Need.{Need}
 use Rattle.rules.specs.declared.tally.Tally.{Tally}
 use Rattle.rules.proofs.Laws.Adding.{joins, Joins, joins-tests, empty-sound, all-snoc, tally-there, tally-else}
 use Rattle.rules.proofs.Laws.Fit.{running-is}
-use Rattle.rules.proofs.Laws.Loads.{loads-size, loads-each}
 use Rattle.rules.proofs.Laws.Places.{target-at}
 use Rattle.rules.proofs.Laws.Sound.{all-more}
 use Rattle.rules.proofs.Laws.Targets.{no-moves, dests-none}
@@ -42,10 +40,10 @@ pub record Directing (s places dests : List ℕ) (v : ℕ) (sums : List Tally) :
   pub sound : soundStep (roomOf s) (held s places) step ≡ true
   pub below : all (λ move. ltb (move .vm) v) step ≡ true
   pub left : joinedAll (roomOf s) (held s places) step (from v (vmCount s - v)) ≡ directStep (roomOf s) (held s places)
-  pub size : length sums ≡ 65
+  pub size : length sums ≡ 256
   pub each : (d : ℕ) → d < 64 → getD sums d emptyTally ≡ tallyAt (roomOf s) d (allRunning (firstMoment (roomOf s) (held s places) step))
-  pub memory-most : (d : ℕ) → getD sums d emptyTally .memory ≤ (vmCount s + v) * 16777216
-  pub cpu-most : (d : ℕ) → getD sums d emptyTally .cpu ≤ (vmCount s + v) * 65536
+  pub memory-most : (d : ℕ) → getD sums d emptyTally .memory ≤ (vmCount s + v) * 33554432
+  pub cpu-most : (d : ℕ) → getD sums d emptyTally .cpu ≤ (vmCount s + v) * 131072
 
 -- ---- the start: nobody joined, all VMs at rest
 
@@ -53,7 +51,7 @@ pub record Directing (s places dests : List ℕ) (v : ℕ) (sums : List Tally) :
 pub rest-tally : (s places dests : List ℕ) (sums : List Tally) (d : ℕ) → dests ≡ replicate 256 64 → Loads s places dests sums → clusterCheck s ≡ Whole → d < 64 →
     getD sums d emptyTally ≡ tallyAt (roomOf s) d (allRunning (firstMoment (roomOf s) (held s places) []))
 rest-tally s places dests sums d e l w h =
-    loads-each s places dests sums l d (omega arith) ∙ ap (λ (x : List ℕ). tallyAt (roomOf s) d (busyFrom places x 0 (vmCount s))) (e ∙ sym dests-none) ∙
+    l .each d h ∙ ap (λ (x : List ℕ). tallyAt (roomOf s) d (busyFrom places x 0 (vmCount s))) (e ∙ sym dests-none) ∙
     ap (tallyAt (roomOf s) d) (running-is s places [] w (no-moves s places))
 
 pub directing-start : (s places dests : List ℕ) (sums : List Tally) → dests ≡ replicate 256 64 → Loads s places dests sums → clusterCheck s ≡ Whole →
@@ -67,7 +65,7 @@ directing-start s places dests sums e l w =
       sound = empty-sound (roomOf s) (held s places);
       below = refl;
       left = rw (sub-zero (vmCount s), vms-count s);
-      size = loads-size s places dests sums l;
+      size = l .size;
       each = λ d h. rest-tally s places dests sums d e l w h;
       memory-most = λ d. rw z (l .memory-most d);
       cpu-most = λ d. rw z (l .cpu-most d);
@@ -84,7 +82,7 @@ unfolding from
 left-none n v h = let z : n - v ≡ 0 = omega arith in rw z
 
 -- one sum replaced
-module _ (sums : List Tally) (t : ℕ) (sum : Tally) (z : length sums ≡ 65) (h : t < 65) where
+module _ (sums : List Tally) (t : ℕ) (sum : Tally) (z : length sums ≡ 256) (h : t < 256) where
   sum-at : getD (set sums t sum) t emptyTally ≡ sum
   sum-at = getD-set-same sums t sum emptyTally (rw z h)
 
@@ -100,19 +98,23 @@ directing-light s places dests v sums inv w h d =
     let m = vms-most s w in let a = inv .memory-most d in let b = inv .cpu-most d in record { memory = omega arith; cpu = omega arith }
 
 module _ (s places dests : List ℕ) (v d to : ℕ) (sums : List Tally) (inv : Directing s places dests v sums) (w : clusterCheck s ≡ Whole) (h : v < vmCount s)
-    (e : d ≡ vmOf (roomOf s) v .target) (n : d < nodeCount s) (g : to ≡ goalOf s places dests (getD sums d emptyTally) v) where
+    (e : d ≡ vmOf (roomOf s) v .target) (g : to ≡ goalOf s places dests (getD sums d emptyTally) v) where
   target-is : placeOf (targetOf (roomOf s)) v ≡ d
   target-is = target-at (roomOf s) v ∙ sym e
 
-  d-low : d < 64
-  d-low = let m = nodes-most s w in omega arith
+  -- a VM can be sent to its target
+  aimed : aims (roomOf s) v d ≡ true
+  unfolding aims
+  aimed = ⊎-elim (λ x. let c = nodes-count s in rw (lt-ltb d (length (roomOf s .nodes)) (omega arith)))
+      (λ x. rw (target-is, eq-eqb d nowhere x) (or-true (ltb d (length (roomOf s .nodes)))))
+      (place-either (nodeCount s) d (rw e (vm-target-place s v w h)))
 
-  tally-is : getD sums d emptyTally ≡ tallyAt (roomOf s) d (allRunning (firstMoment (roomOf s) (held s places) (inv .step)))
-  tally-is = inv .each d d-low
+  tally-is : d < 64 → getD sums d emptyTally ≡ tallyAt (roomOf s) d (allRunning (firstMoment (roomOf s) (held s places) (inv .step)))
+  tally-is l = inv .each d l
 
   -- the whole step is sound with the move exactly if the move joins
   test-is : soundStep (roomOf s) (held s places) (inv .step ++ (moving v d ∷ [])) ≡ joinsIn s places dests (getD sums d emptyTally) v d
-  test-is = longer-sound s places dests (inv .step) (getD sums d emptyTally) v d w (inv .array) (inv .sound) tally-is h n (inv .below)
+  test-is = longer-sound s places dests (inv .step) (getD sums d emptyTally) v d w (inv .array) (inv .sound) tally-is h aimed (inv .below)
 
   joined-is : joined (roomOf s) (held s places) (inv .step) v ≡
       pick (not (eqb (placeOf (held s places) v) d) && soundStep (roomOf s) (held s places) (inv .step ++ (moving v d ∷ []))) (inv .step ++ (moving v d ∷ [])) (inv .step)
@@ -122,16 +124,6 @@ module _ (s places dests : List ℕ) (v d to : ℕ) (sums : List Tally) (inv : D
   goal-is : (b : Bool) → joinsIn s places dests (getD sums d emptyTally) v d ≡ b → to ≡ pick b d 64
   unfolding goalOf
   goal-is b q = g ∙ rw (← e, q)
-
-  pub goal-low : to < 65
-  goal-low = go (joinsIn s places dests (getD sums d emptyTally) v d) refl
-    where
-      go : (b : Bool) → joinsIn s places dests (getD sums d emptyTally) v d ≡ b → to < 65
-      go true q = let k : to ≡ d = goal-is true q in let l = d-low in omega arith
-      go false q = let k : to ≡ 64 = goal-is false q in omega arith
-
-  pub goal-offset : Fits w64 (to * 16)
-  goal-offset = let l = goal-low in record { fits = omega arith }
 
   next-left : (step : Step) → joined (roomOf s) (held s places) (inv .step) v ≡ step →
       joinedAll (roomOf s) (held s places) step (from (v + 1) (vmCount s - (v + 1))) ≡ directStep (roomOf s) (held s places)
@@ -143,17 +135,17 @@ module _ (s places dests : List ℕ) (v d to : ℕ) (sums : List Tally) (inv : D
       all-more (λ move. ltb (move .vm) v) (λ move. ltb (move .vm) (v + 1))
       (λ move q. let k = ltb-true (move .vm) v q in lt-ltb (move .vm) (v + 1) (omega arith)) (inv .step) (inv .below)
 
-  module _ (need : Need) (sum : Tally) (k : NeedOf (roomOf s) v need)
+  module _ (small : to < 256) (need : Need) (sum : Tally) (k : NeedOf (roomOf s) v need)
       (z : sum ≡ record { memory = getD sums to emptyTally .memory + need .memory; cpu = getD sums to emptyTally .cpu + need .cpu }) where
-    more-memory : (i : ℕ) → getD (set sums to sum) i emptyTally .memory ≤ (vmCount s + (v + 1)) * 16777216
+    more-memory : (i : ℕ) → getD (set sums to sum) i emptyTally .memory ≤ (vmCount s + (v + 1)) * 33554432
     more-memory =
         let a = inv .memory-most to in let b = k .memory-most in let q = ap (λ (r : Tally). r .memory) z in
-        sum-most sums to sum (inv .size) goal-low (λ (r : Tally). r .memory) ((vmCount s + (v + 1)) * 16777216) ((vmCount s + v) * 16777216) (omega arith) (omega arith) (inv .memory-most)
+        sum-most sums to sum (inv .size) small (λ (r : Tally). r .memory) ((vmCount s + (v + 1)) * 33554432) ((vmCount s + v) * 33554432) (omega arith) (omega arith) (inv .memory-most)
 
-    more-cpu : (i : ℕ) → getD (set sums to sum) i emptyTally .cpu ≤ (vmCount s + (v + 1)) * 65536
+    more-cpu : (i : ℕ) → getD (set sums to sum) i emptyTally .cpu ≤ (vmCount s + (v + 1)) * 131072
     more-cpu =
         let a = inv .cpu-most to in let b = k .cpu-most in let q = ap (λ (r : Tally). r .cpu) z in
-        sum-most sums to sum (inv .size) goal-low (λ (r : Tally). r .cpu) ((vmCount s + (v + 1)) * 65536) ((vmCount s + v) * 65536) (omega arith) (omega arith) (inv .cpu-most)
+        sum-most sums to sum (inv .size) small (λ (r : Tally). r .cpu) ((vmCount s + (v + 1)) * 131072) ((vmCount s + v) * 131072) (omega arith) (omega arith) (inv .cpu-most)
 
     -- it joins
     goes : joinsIn s places dests (getD sums d emptyTally) v d ≡ true → Directing s places (set dests v to) (v + 1) (set sums to sum)
@@ -175,7 +167,7 @@ module _ (s places dests : List ℕ) (v d to : ℕ) (sums : List Tally) (inv : D
 
         j : Joins (roomOf s) (held s places) (inv .step) v d
         j = joins-tests (roomOf s) (held s places) (inv .step) v d
-            (sym (joins-is s places dests (inv .step) (getD sums d emptyTally) v d w (inv .array) (inv .sound) tally-is h n) ∙ q)
+            (sym (joins-is s places dests (inv .step) (getD sums d emptyTally) v d w (inv .array) (inv .sound) tally-is h aimed) ∙ q)
 
         away-from : d ≡ placeOf (held s places) v → ⊥
         away-from = eqb-false d (placeOf (held s places) v) (not-true (eqb d (placeOf (held s places) v)) (j .off))
@@ -186,10 +178,11 @@ module _ (s places dests : List ℕ) (v d to : ℕ) (sums : List Tally) (inv : D
         each : (i : ℕ) → i < 64 → getD (set sums to sum) i emptyTally ≡ tallyAt (roomOf s) i (allRunning (firstMoment (roomOf s) (held s places) (inv .step ++ (moving v d ∷ []))))
         each i l =
             by-cases (ℕ-discrete i d)
-            (λ p. rw p
-            (ap (λ (m : ℕ). getD (set sums m sum) d emptyTally) to-d ∙ getD-set-same sums d sum emptyTally (rw (inv .size) (let b = d-low in omega arith)) ∙
+            (λ p. let low : d < 64 = rw (← p) l in
+            rw p
+            (ap (λ (m : ℕ). getD (set sums m sum) d emptyTally) to-d ∙ getD-set-same sums d sum emptyTally (rw (inv .size) (omega arith)) ∙
             with-is (roomOf s) v need (getD sums to emptyTally) sum z k ∙
-            ap (λ (r : Tally). withVm r (vmOf (roomOf s) v)) (ap (λ (m : ℕ). getD sums m emptyTally) to-d ∙ inv .each d d-low) ∙
+            ap (λ (r : Tally). withVm r (vmOf (roomOf s) v)) (ap (λ (m : ℕ). getD sums m emptyTally) to-d ∙ inv .each d low) ∙
             sym (tally-there (roomOf s) (held s places) (inv .step) v d (inv .below) (j .vm-there) away-from)))
             (λ p. getD-set-other sums to i sum emptyTally (λ m. p (m ∙ to-d)) ∙ inv .each i l ∙
             sym (tally-else (roomOf s) (held s places) (inv .step) v d (inv .below) (j .vm-there) away-from i (λ m. p (sym m))))
@@ -203,7 +196,7 @@ module _ (s places dests : List ℕ) (v d to : ℕ) (sums : List Tally) (inv : D
       below = below-more;
       left = next-left (inv .step) (joined-is ∙ rw (test-is, q, and-false (not (eqb (placeOf (held s places) v) d))));
       size = length-set sums to sum ∙ inv .size;
-      each = λ i l. getD-set-other sums to i sum emptyTally (λ m. let f = to-none in omega arith) ∙ inv .each i l;
+      each = λ i l. getD-set-other sums to i sum emptyTally (λ m. let g = to-none in omega arith) ∙ inv .each i l;
       memory-most = more-memory;
       cpu-most = more-cpu;
     }
@@ -214,12 +207,23 @@ module _ (s places dests : List ℕ) (v d to : ℕ) (sums : List Tally) (inv : D
         free : getD dests v 0 ≡ 64
         free = ap (λ (l : List ℕ). getD l v 0) (inv .array) ∙ dests-above (inv .step) v (let m = vms-most s w in omega arith) (inv .below)
 
-    pub directing-turn : Directing s places (set dests v to) (v + 1) (set sums to sum)
-    directing-turn = go (joinsIn s places dests (getD sums d emptyTally) v d) refl
+    turn-whole : Directing s places (set dests v to) (v + 1) (set sums to sum)
+    turn-whole = go (joinsIn s places dests (getD sums d emptyTally) v d) refl
       where
         go : (b : Bool) → joinsIn s places dests (getD sums d emptyTally) v d ≡ b → Directing s places (set dests v to) (v + 1) (set sums to sum)
         go true q = goes q
         go false q = stays q
+
+-- the same with the indices as the code has them
+pub directing-turn : (s places dests : List ℕ) (v d to i t : ℕ) (sums : List Tally) → Directing s places dests v sums → clusterCheck s ≡ Whole → v < vmCount s →
+    d ≡ vmOf (roomOf s) v .target → i ≡ d → to ≡ goalOf s places dests (getD sums i emptyTally) v → t ≡ to → t < 256 → (need : Need) (sum : Tally) → NeedOf (roomOf s) v need →
+    sum ≡ record { memory = getD sums t emptyTally .memory + need .memory; cpu = getD sums t emptyTally .cpu + need .cpu } → Directing s places (set dests v to) (v + 1) (set sums t sum)
+directing-turn s places dests v d to i t sums inv w h e x g y small need sum k z =
+    rw y (turn-whole s places dests v d to sums inv w h e (g ∙ ap (λ (j : ℕ). goalOf s places dests (getD sums j emptyTally) v) x) (rw (← y) small) need sum k
+    (z ∙ ap (λ (j : ℕ). plus need (getD sums j emptyTally)) y))
+  where
+    plus : Need → Tally → Tally
+    plus n a = record { memory = a .memory + n .memory; cpu = a .cpu + n .cpu }
 
 pub directing-end : (s places dests : List ℕ) (v n : ℕ) (sums : List Tally) → Directing s places dests v sums → n ≡ vmCount s → n ≤ v →
     dests ≡ destsFrom (directStep (roomOf s) (held s places))

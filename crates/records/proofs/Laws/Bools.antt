@@ -1,11 +1,11 @@
--- Laws on tests: conjunction, and a test of every element of a list.
+-- Laws on tests: conjunction, choice, and a test of every element of a list.
 use Prim.Native.Nat.{ℕ, zero, suc, _<_}
 use mathlib.Core.Bool.{Bool, true, false, _&&_, and-assoc, and-false}
 use mathlib.Core.List.{List, [], _∷_, _++_, map}
 use mathlib.Core.Path.{_≡_, refl, sym, ap, _∙_}
 use native.Mathlib.Omega.{arith}
 use lib.ListN.{length, getD}
-use Rattle.records.specs.Base.{all}
+use Rattle.records.specs.Base.{pick, all}
 
 pub and-left : (a b : Bool) → (a && b) ≡ true → a ≡ true
 and-left true b e = refl
@@ -19,6 +19,11 @@ pub and-both : {a b : Bool} → a ≡ true → b ≡ true → (a && b) ≡ true
 and-both e f = simp (e, f)
 
 -- two tests that hold together are equal
+-- a choice between the same
+pub pick-same : {A : Type 0} (b : Bool) (x : A) → pick b x x ≡ x
+pick-same true x = refl
+pick-same false x = refl
+
 pub bool-iff : (a b : Bool) → (a ≡ true → b ≡ true) → (b ≡ true → a ≡ true) → a ≡ b
 bool-iff true b f g = sym (f refl)
 bool-iff false true f g = g refl

@@ -8,16 +8,16 @@ use native.Mathlib.Decide.{decLt}
 use native.Mathlib.Omega.{arith}
 use lib.ListN.{length, List·getD-eq-default}
 use lib.Dec.{ltb, leb, eqb}
-use borrow.Author.Tests.{lt-ltb, le-ltb, eq-eqb, ne-eqb, ltb-true, ltb-false, leb-true, eqb-true, not-false}
+use borrow.Author.Tests.{lt-ltb, le-ltb, ne-eqb, ltb-false, leb-true, eqb-true, not-false}
 use Rattle.records.specs.Base.{pick, all}
-use Rattle.records.specs.Bytes.{byteAt, be16, be24, be32, AreBytes}
-use Rattle.records.specs.Room.{Node, Vm, noNode, noVm, nodeOf, vmOf, nodeRow, vmRow, nodeCount, vmCount, constraintCount, vmsStart, constraintsStart, roomOf, partsOf, partsEnd, countsOk, vmOk, wellFormed, clusterCheck}
+use Rattle.records.specs.Bytes.{byteAt, be16, be24, be32, versionOf, knownVersion, AreBytes}
+use Rattle.records.specs.Room.{Node, Vm, noNode, noVm, nodeOf, vmOf, nodeRow, vmRow, nodeCount, vmCount, constraintCount, vmsStart, constraintsStart, roomOf, partsOf, partsEnd, knowsNowhere, countsOk, placeOk, vmOk, wellFormed, clusterCheck}
 use Rattle.records.specs.declared.faults.ClusterFault.{ClusterFault}
 use Rattle.records.specs.declared.faults.ClusterFault.the-variants.{TooShort, Version, Length, Counts, Fill, VmRow, Constraint}
 use Rattle.records.specs.declared.faults.ClusterCheck.{ClusterCheck}
 use Rattle.records.specs.declared.faults.ClusterCheck.the-variants.{Whole, Damaged}
 use Rattle.records.proofs.Laws.Bools.{and-left, and-right, all-at}
-use Rattle.records.proofs.Laws.Rows.{rows-length, rows-at}
+use Rattle.records.proofs.Laws.Rows.{rows-length, rows-at, place-below, place-node}
 use Rattle.records.proofs.Laws.Parts.{parts-on}
 
 -- ---- what the later tests need of the earlier ones
@@ -42,42 +42,45 @@ module _ (s : List ℕ) where
   unfolding clusterCheck
   fault-short h = simp (lt-ltb (length s) 11 h)
 
-  module _ (version : ℕ) (e1 : version ≡ byteAt s 0) (h1 : 11 ≤ length s) where
-    pub fault-version : (version ≡ 1 → ⊥) → Damaged Version ≡ clusterCheck s
-    unfolding clusterCheck
-    fault-version h2 = simp (le-ltb (length s) 11 h1, ne-eqb (byteAt s 0) 1 (λ q. h2 (e1 ∙ q)))
+  module _ (version : ℕ) (e1 : version ≡ versionOf s) (h1 : 11 ≤ length s) (known : Bool) (k1 : known ≡ knownVersion version) where
+    known-is : knownVersion (versionOf s) ≡ known
+    known-is = rw (← e1) (sym k1)
 
-    module _ (wrong : Bool) (e2 : wrong ≡ (not (eqb (be32 s 1) (length s)) || ltb 65535 (be32 s 1))) (h2 : version ≡ 1) where
+    pub fault-version : known ≡ false → Damaged Version ≡ clusterCheck s
+    unfolding clusterCheck
+    fault-version h2 = simp (le-ltb (length s) 11 h1, known-is ∙ h2)
+
+    module _ (wrong : Bool) (e2 : wrong ≡ (not (eqb (be32 s 1) (length s)) || ltb 65535 (be32 s 1))) (h2 : known ≡ true) where
       pub fault-length : wrong ≡ true → Damaged Length ≡ clusterCheck s
       unfolding clusterCheck
-      fault-length h3 = simp (le-ltb (length s) 11 h1, eq-eqb (byteAt s 0) 1 (sym e1 ∙ h2), sym e2 ∙ h3)
+      fault-length h3 = simp (le-ltb (length s) 11 h1, known-is ∙ h2, sym e2 ∙ h3)
 
       module _ (counts : Bool) (e3 : counts ≡ countsOk s) (h3 : wrong ≡ false) where
         pub fault-counts : counts ≡ false → Damaged Counts ≡ clusterCheck s
         unfolding clusterCheck
-        fault-counts h4 = simp (le-ltb (length s) 11 h1, eq-eqb (byteAt s 0) 1 (sym e1 ∙ h2), sym e2 ∙ h3, sym e3 ∙ h4)
+        fault-counts h4 = simp (le-ltb (length s) 11 h1, known-is ∙ h2, sym e2 ∙ h3, sym e3 ∙ h4)
 
         module _ (fill : Bool) (e4 : fill ≡ eqb (partsEnd s (constraintsStart s) (constraintCount s)) (length s)) (h4 : counts ≡ true) where
           pub fault-fill : fill ≡ false → Damaged Fill ≡ clusterCheck s
           unfolding clusterCheck
-          fault-fill h5 = simp (le-ltb (length s) 11 h1, eq-eqb (byteAt s 0) 1 (sym e1 ∙ h2), sym e2 ∙ h3, sym e3 ∙ h4, sym e4 ∙ h5)
+          fault-fill h5 = simp (le-ltb (length s) 11 h1, known-is ∙ h2, sym e2 ∙ h3, sym e3 ∙ h4, sym e4 ∙ h5)
 
-          module _ (vms : Bool) (e5 : vms ≡ all (vmOk (nodeCount s)) (roomOf s .vms)) (h5 : fill ≡ true) where
+          module _ (vms : Bool) (e5 : vms ≡ all (vmOk (knowsNowhere s) (nodeCount s)) (roomOf s .vms)) (h5 : fill ≡ true) where
             pub fault-row : vms ≡ false → Damaged VmRow ≡ clusterCheck s
             unfolding clusterCheck
             fault-row h6 =
-                simp (le-ltb (length s) 11 h1, eq-eqb (byteAt s 0) 1 (sym e1 ∙ h2), sym e2 ∙ h3, sym e3 ∙ h4, sym e4 ∙ h5, sym e5 ∙ h6)
+                simp (le-ltb (length s) 11 h1, known-is ∙ h2, sym e2 ∙ h3, sym e3 ∙ h4, sym e4 ∙ h5, sym e5 ∙ h6)
 
             module _ (parts : Bool) (e6 : parts ≡ all (wellFormed (vmCount s) (nodeCount s)) (partsOf s)) (h6 : vms ≡ true) where
               pub fault-constraint : parts ≡ false → Damaged Constraint ≡ clusterCheck s
               unfolding clusterCheck
               fault-constraint h7 =
-                  simp (le-ltb (length s) 11 h1, eq-eqb (byteAt s 0) 1 (sym e1 ∙ h2), sym e2 ∙ h3, sym e3 ∙ h4, sym e4 ∙ h5, sym e5 ∙ h6, sym e6 ∙ h7)
+                  simp (le-ltb (length s) 11 h1, known-is ∙ h2, sym e2 ∙ h3, sym e3 ∙ h4, sym e4 ∙ h5, sym e5 ∙ h6, sym e6 ∙ h7)
 
               pub fault-none : parts ≡ true → Whole ≡ clusterCheck s
               unfolding clusterCheck
               fault-none h7 =
-                  simp (le-ltb (length s) 11 h1, eq-eqb (byteAt s 0) 1 (sym e1 ∙ h2), sym e2 ∙ h3, sym e3 ∙ h4, sym e4 ∙ h5, sym e5 ∙ h6, sym e6 ∙ h7)
+                  simp (le-ltb (length s) 11 h1, known-is ∙ h2, sym e2 ∙ h3, sym e3 ∙ h4, sym e4 ∙ h5, sym e5 ∙ h6, sym e6 ∙ h7)
 
 -- ---- what an undamaged record has
 
@@ -86,7 +89,7 @@ pub record Undamaged (s : List ℕ) : Type 0 where
   pub most : length s ≤ 65535
   pub counts : countsOk s ≡ true
   pub ends : partsEnd s (constraintsStart s) (constraintCount s) ≡ length s
-  pub rows : all (vmOk (nodeCount s)) (roomOf s .vms) ≡ true
+  pub rows : all (vmOk (knowsNowhere s) (nodeCount s)) (roomOf s .vms) ≡ true
   pub parts : all (wellFormed (vmCount s) (nodeCount s)) (partsOf s) ≡ true
 
 passed : (test : Bool) (f : ClusterFault) (rest : ClusterCheck) → pick test (Damaged f) rest ≡ Whole → (test ≡ false) × (rest ≡ Whole)
@@ -101,11 +104,11 @@ pub undamaged : (s : List ℕ) → clusterCheck s ≡ Whole → Undamaged s
 unfolding clusterCheck
 undamaged s w =
     let a = passed (ltb (length s) 11) TooShort _ w in
-    let b = passed (not (eqb (byteAt s 0) 1)) Version _ (a .1) in
+    let b = passed (not (knownVersion (versionOf s))) Version _ (a .1) in
     let c = passed (not (eqb (be32 s 1) (length s)) || ltb 65535 (be32 s 1)) Length _ (b .1) in
     let d = passed (not (countsOk s)) Counts _ (c .1) in
     let e = passed (not (eqb (partsEnd s (constraintsStart s) (constraintCount s)) (length s))) Fill _ (d .1) in
-    let f = passed (not (all (vmOk (nodeCount s)) (roomOf s .vms))) VmRow _ (e .1) in
+    let f = passed (not (all (vmOk (knowsNowhere s) (nodeCount s)) (roomOf s .vms))) VmRow _ (e .1) in
     let h = or-none (not (eqb (be32 s 1) (length s))) (ltb 65535 (be32 s 1)) (c .0) in
     let g = passed (not (all (wellFormed (vmCount s) (nodeCount s)) (partsOf s))) Constraint Whole (f .1) in
     record {
@@ -113,7 +116,7 @@ undamaged s w =
       most = rw (← eqb-true (be32 s 1) (length s) (not-false (eqb (be32 s 1) (length s)) (h .0))) (ltb-false 65535 (be32 s 1) (h .1));
       counts = not-false (countsOk s) (d .0);
       ends = eqb-true (partsEnd s (constraintsStart s) (constraintCount s)) (length s) (not-false _ (e .0));
-      rows = not-false (all (vmOk (nodeCount s)) (roomOf s .vms)) (f .0);
+      rows = not-false (all (vmOk (knowsNowhere s) (nodeCount s)) (roomOf s .vms)) (f .0);
       parts = not-false (all (wellFormed (vmCount s) (nodeCount s)) (partsOf s)) (g .0);
     }
 
@@ -146,6 +149,12 @@ module _ (s : List ℕ) (w : clusterCheck s ≡ Whole) where
 
   pub constraints-most : constraintCount s ≤ 128
   constraints-most = leb-true (constraintCount s) 128 (and-right (leb (vmCount s) 256) (leb (constraintCount s) 128) later)
+
+-- ---- places: a node, or nowhere
+
+pub place-ok : (known : Bool) (n place : ℕ) → placeOk known n place ≡ true → placeOk true n place ≡ true
+place-ok true n place e = e
+place-ok false n place e = sym (place-node true n place (place-below n place e))
 
 -- ---- the nodes and VMs of the room, by their rows
 
@@ -196,32 +205,50 @@ module _ (s : List ℕ) (v at : ℕ) (e : at ≡ vmsStart s + v * 7) (h : v < vm
 
 -- the bounds of an undamaged VM row
 module _ (s : List ℕ) (v : ℕ) (w : clusterCheck s ≡ Whole) (h : v < vmCount s) where
-  vm-ok : vmOk (nodeCount s) (vmOf (roomOf s) v) ≡ true
+  vm-ok : vmOk (knowsNowhere s) (nodeCount s) (vmOf (roomOf s) v) ≡ true
   unfolding vmOf
-  vm-ok = all-at (vmOk (nodeCount s)) (roomOf s .vms) v noVm (undamaged s w .rows) (rw (vms-count s) h)
+  vm-ok = all-at (vmOk (knowsNowhere s) (nodeCount s)) (roomOf s .vms) v noVm (undamaged s w .rows) (rw (vms-count s) h)
 
   pub vm-memory-least : 1 ≤ vmOf (roomOf s) v .memory
   unfolding vmOk
   vm-memory-least = leb-true 1 _ (and-left (leb 1 (vmOf (roomOf s) v .memory)) _ vm-ok)
 
-  pub vm-current-below : vmOf (roomOf s) v .current < nodeCount s
+  pub current-ok : placeOk (knowsNowhere s) (nodeCount s) (vmOf (roomOf s) v .current) ≡ true
   unfolding vmOk
-  vm-current-below = ltb-true _ _ (and-left (ltb (vmOf (roomOf s) v .current) (nodeCount s)) _ (and-right (leb 1 (vmOf (roomOf s) v .memory)) _ vm-ok))
+  current-ok = and-left (placeOk (knowsNowhere s) (nodeCount s) (vmOf (roomOf s) v .current)) _ (and-right (leb 1 (vmOf (roomOf s) v .memory)) _ vm-ok)
 
-  pub vm-target-below : vmOf (roomOf s) v .target < nodeCount s
+  pub target-ok : placeOk (knowsNowhere s) (nodeCount s) (vmOf (roomOf s) v .target) ≡ true
   unfolding vmOk
-  vm-target-below = ltb-true _ _ (and-right (ltb (vmOf (roomOf s) v .current) (nodeCount s)) _ (and-right (leb 1 (vmOf (roomOf s) v .memory)) _ vm-ok))
+  target-ok = and-right (placeOk (knowsNowhere s) (nodeCount s) (vmOf (roomOf s) v .current)) _ (and-right (leb 1 (vmOf (roomOf s) v .memory)) _ vm-ok)
+
+  pub vm-current-place : placeOk true (nodeCount s) (vmOf (roomOf s) v .current) ≡ true
+  vm-current-place = place-ok (knowsNowhere s) (nodeCount s) (vmOf (roomOf s) v .current) current-ok
+
+  pub vm-target-place : placeOk true (nodeCount s) (vmOf (roomOf s) v .target) ≡ true
+  vm-target-place = place-ok (knowsNowhere s) (nodeCount s) (vmOf (roomOf s) v .target) target-ok
+
+  -- in version 1 both are nodes
+  module _ (one : versionOf s ≡ 1) where
+    unknown : knowsNowhere s ≡ false
+    unfolding knowsNowhere
+    unknown = ne-eqb (versionOf s) 2 (λ e. omega arith)
+
+    pub vm-current-node : vmOf (roomOf s) v .current < nodeCount s
+    vm-current-node = place-below (nodeCount s) (vmOf (roomOf s) v .current) (ap (λ (k : Bool). placeOk k (nodeCount s) (vmOf (roomOf s) v .current)) (sym unknown) ∙ current-ok)
+
+    pub vm-target-node : vmOf (roomOf s) v .target < nodeCount s
+    vm-target-node = place-below (nodeCount s) (vmOf (roomOf s) v .target) (ap (λ (k : Bool). placeOk k (nodeCount s) (vmOf (roomOf s) v .target)) (sym unknown) ∙ target-ok)
 
 -- the same of what an accessor returned
 module _ (s : List ℕ) (v at r : ℕ) (e : at ≡ vmsStart s + v * 7) (w : clusterCheck s ≡ Whole) (h : v < vmCount s) where
   pub memory-least : r ≡ be24 s at → 1 ≤ r
   memory-least f = rw (vm-memory-is s v at e h r f) (vm-memory-least s v w h)
 
-  pub current-below : r ≡ byteAt s (at + 5) → r < nodeCount s
-  current-below f = rw (vm-current-is s v at e h r f) (vm-current-below s v w h)
+  pub current-place : r ≡ byteAt s (at + 5) → placeOk (knowsNowhere s) (nodeCount s) r ≡ true
+  current-place f = rw (vm-current-is s v at e h r f) (current-ok s v w h)
 
-  pub target-below : r ≡ byteAt s (at + 6) → r < nodeCount s
-  target-below f = rw (vm-target-is s v at e h r f) (vm-target-below s v w h)
+  pub target-place : r ≡ byteAt s (at + 6) → placeOk (knowsNowhere s) (nodeCount s) r ≡ true
+  target-place f = rw (vm-target-is s v at e h r f) (target-ok s v w h)
 
 -- what a VM needs, from the bytes of its row
 pub vm-memory-most : (s : List ℕ) (v : ℕ) → AreBytes s → vmOf (roomOf s) v .memory < 2 ^ 24

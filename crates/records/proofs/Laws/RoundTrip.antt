@@ -11,9 +11,9 @@ use lib.Seq.{getD-drop, drop-drop, drop-at}
 use lib.Dec.{ltb, leb, eqb}
 use borrow.Author.Tests.{le-ltb, eq-eqb, ne-eqb, leb-true}
 use Rattle.records.specs.Base.{pick, all, sumOf}
-use Rattle.records.specs.Bytes.{byteAt, be16, be24, be32, bytes16, bytes32}
+use Rattle.records.specs.Bytes.{byteAt, be16, be24, be32, bytes16, bytes32, versionOf, knownVersion}
 use Rattle.records.specs.Room.{rows}
-use Rattle.records.specs.Plan.{Move, Step, stepCount, versionOf, knownVersion, namesSources, moveWidth, sourceAt, moveCount, moveAt, stepAt, stepEnd, stepsFrom, stepsEnd, stepsOf, moveTotal, sized, shaped, planCheck, longestPlan, sourceBytes, moveBytes, movesBytes, stepBytes, stepsBytes, headerBytes, writtenVersion, writtenWidth, planBytes}
+use Rattle.records.specs.Plan.{Move, Step, stepCount, namesSources, moveWidth, sourceAt, moveCount, moveAt, stepAt, stepEnd, stepsFrom, stepsEnd, stepsOf, moveTotal, sized, shaped, planCheck, longestPlan, sourceBytes, moveBytes, movesBytes, stepBytes, stepsBytes, headerBytes, writtenVersion, writtenWidth, planBytes}
 use Rattle.records.specs.Inner.{tellsSource, tellsSources}
 use Rattle.records.specs.declared.plan.Source.{Source}
 use Rattle.records.specs.declared.plan.Source.the-variants.{Unnamed, Named}

@@ -12,8 +12,8 @@ use lib.ListN.{length, getD}
 use lib.Dec.{ltb, leb, eqb}
 use borrow.Author.Tests.{lt-ltb, le-ltb, le-leb, lt-leb, eq-eqb, ne-eqb, ltb-false, leb-true, eqb-true, not-false}
 use Rattle.records.specs.Base.{pick, all, sumOf}
-use Rattle.records.specs.Bytes.{byteAt, be16, be32}
-use Rattle.records.specs.Plan.{Move, Step, noMove, moveOf, stepCount, versionOf, knownVersion, namesSources, moveWidth, sourceAt, moveCount, moveAt, stepAt, stepEnd, stepsFrom, stepsEnd, stepsOf, moveTotal, sized, shaped, planCheck, longestPlan}
+use Rattle.records.specs.Bytes.{byteAt, be16, be32, versionOf, knownVersion}
+use Rattle.records.specs.Plan.{Move, Step, noMove, moveOf, stepCount, namesSources, moveWidth, sourceAt, moveCount, moveAt, stepAt, stepEnd, stepsFrom, stepsEnd, stepsOf, moveTotal, sized, shaped, planCheck, longestPlan}
 use Rattle.records.specs.declared.plan.Source.the-variants.{Unnamed, Named}
 use Rattle.records.specs.Room.{rows}
 use Rattle.records.specs.Inner.{stepsOk, tellsSource, tellsSources, Steps}
@@ -157,15 +157,6 @@ module _ (s : List ℕ) (count : ℕ) (e : count ≡ stepCount s) where
       ((simp (e, zero-add) at f) ∙ sym (and-assoc (all sized (stepsFrom s 7 (stepCount s))) _ _))
 
 -- ---- each refusal in its turn
-
--- the two versions
-pub known-plain : (version : ℕ) → version ≡ 1 → true ≡ knownVersion version
-unfolding knownVersion
-known-plain version e = rw (eq-eqb version 1 e)
-
-pub known-else : (version : ℕ) → (version ≡ 1 → ⊥) → eqb version 2 ≡ knownVersion version
-unfolding knownVersion
-known-else version e = rw (ne-eqb version 1 e)
 
 module _ (s : List ℕ) where
   pub plan-empty : length s ≡ 0 → Whole ≡ planCheck s

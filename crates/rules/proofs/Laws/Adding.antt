@@ -9,14 +9,14 @@ use lib.ListN.{length, getD}
 use lib.Dec.{ltb, eqb}
 use borrow.Author.Tests.{ltb-true, eqb-true, eqb-false, not-true, lt-ltb, eq-eqb, ne-eqb}
 use Rattle.records.specs.Base.{pick, all}
-use Rattle.records.specs.Room.{Constraint, ban, fence, spread, latency, has, Room, vmOf, nodeOf}
+use Rattle.records.specs.Room.{Constraint, ban, fence, spread, latency, has, Room, vmOf, onNode}
 use Rattle.records.specs.Plan.{Move, Step, noMove, moveOf}
 use Rattle.records.specs.declared.plan.Source.the-variants.{Unnamed}
-use Rattle.records.proofs.Laws.Bools.{and-left, and-right, and-both, bool-iff, all-head, all-tail, all-at, all-append}
-use Rattle.rules.specs.Moments.{Placement, placeOf, within, withVm, Phase, idle, waiting, Cell, cell, Moment, numberOf, countsOn, tallyAt, phaseOf, cellsFrom, firstMoment, begun, allRunning}
+use Rattle.records.proofs.Laws.Bools.{and-left, and-right, and-both, pick-same, bool-iff, all-head, all-tail, all-at, all-append}
+use Rattle.rules.specs.Moments.{Placement, placeOf, bears, withVm, Phase, idle, waiting, Cell, cell, Moment, numberOf, countsOn, tallyAt, phaseOf, cellsFrom, firstMoment, begun, allRunning}
 use Rattle.rules.specs.Orders.{spreads, some, mates, meetsMate}
-use Rattle.rules.specs.Rules.{allowed, named, permitted, fitting, unmet, soundStep}
-use Rattle.rules.proofs.Laws.Orders.{named-least, named-vm, named-node, named-off, named-rest, named-cons, load, memoryIn, cpuIn, memory-load, cpu-load, not-own-mate, phase-at}
+use Rattle.rules.specs.Rules.{allowed, aims, named, permitted, fitting, unmet, soundStep}
+use Rattle.rules.proofs.Laws.Orders.{named-least, named-vm, named-sends, named-off, named-rest, named-cons, load, memoryIn, cpuIn, memory-load, cpu-load, not-own-mate, phase-at}
 use Rattle.rules.proofs.Laws.Sound.{sound-named, sound-permitted, sound-fitting, sound-unmet, sound-tests, all-more}
 use Rattle.rules.proofs.Laws.Meet.{all-intro}
 
@@ -169,15 +169,22 @@ some-at q places step w e k (suc n) l h = go (eqb k w) refl (λ m. some-at q pla
 module _ (room : Room) (places : Placement) (step : Step) (v d : ℕ) (a : all (λ move. ltb (move .vm) v) step ≡ true) (t : v < length (room .vms)) where
   -- v is one VM more that counts on d
   pub meets-added : (w e : ℕ) → meetsMate room (allRunning (firstMoment room places (step ++ (record { vm = v; source = Unnamed; to = d } ∷ [])))) w e ≡
-      (meetsMate room (allRunning (firstMoment room places step)) w e || (mates room w v && eqb d e))
+      (meetsMate room (allRunning (firstMoment room places step)) w e || pick (onNode e) (mates room w v && eqb d e) false)
   unfolding meetsMate firstMoment
-  meets-added w e = some-added places step v d a (mates room w) e 0 (length (room .vms)) (omega arith) (omega arith)
+  meets-added w e =
+      ap (λ (b : Bool). pick (onNode e) b false) (some-added places step v d a (mates room w) e 0 (length (room .vms)) (omega arith) (omega arith)) ∙
+      either (onNode e) (some (λ c. mates room w (numberOf c) && countsOn e c) (allRunning (cellsFrom places step 0 (length (room .vms))))) (mates room w v && eqb d e)
+    where
+      either : (b x y : Bool) → pick b (x || y) false ≡ (pick b x false || pick b y false)
+      either true x y = refl
+      either false x y = refl
 
   -- its own test is the same before and after
   pub meets-own : meetsMate room (allRunning (firstMoment room places (step ++ (record { vm = v; source = Unnamed; to = d } ∷ [])))) v d ≡
       meetsMate room (allRunning (firstMoment room places step)) v d
   meets-own =
-      meets-added v d ∙ ap (λ (b : Bool). meetsMate room (allRunning (firstMoment room places step)) v d || (b && eqb d d)) (not-own-mate room v) ∙
+      meets-added v d ∙
+      ap (λ (b : Bool). meetsMate room (allRunning (firstMoment room places step)) v d || b) (ap (λ (b : Bool). pick (onNode d) (b && eqb d d) false) (not-own-mate room v) ∙ pick-same (onNode d) false) ∙
       or-false (meetsMate room (allRunning (firstMoment room places step)) v d)
 
   module _ (o : d ≡ placeOf places v → ⊥) where
@@ -219,22 +226,22 @@ module _ (room : Room) (places : Placement) (step : Step) (v d : ℕ) (a : all (
 
 -- the last move is well named
 named-last : (room : Room) (places : Placement) (least : ℕ) (step : Step) (v d : ℕ) → named room places least (longer step v d) ≡ true →
-    (ltb v (length (room .vms)) && (ltb d (length (room .nodes)) && not (eqb d (placeOf places v)))) ≡ true
+    (ltb v (length (room .vms)) && (aims room v d && not (eqb d (placeOf places v)))) ≡ true
 named-last room places least [] v d e =
     and-both (lt-ltb v (length (room .vms)) (named-vm room places least (record { vm = v; source = Unnamed; to = d }) [] e))
-    (and-both (lt-ltb d (length (room .nodes)) (named-node room places least (record { vm = v; source = Unnamed; to = d }) [] e))
+    (and-both (named-sends room places least (record { vm = v; source = Unnamed; to = d }) [] e)
     (named-off room places least (record { vm = v; source = Unnamed; to = d }) [] e))
 named-last room places least (move ∷ moves) v d e = named-last room places (suc (move .vm)) moves v d (named-rest room places least move (longer moves v d) e)
 
 named-longer : (room : Room) (places : Placement) (least : ℕ) (step : Step) (v d : ℕ) → named room places least step ≡ true →
-    all (λ move. ltb (move .vm) v) step ≡ true → least ≤ v → v < length (room .vms) → d < length (room .nodes) →
+    all (λ move. ltb (move .vm) v) step ≡ true → least ≤ v → v < length (room .vms) → aims room v d ≡ true →
     not (eqb d (placeOf places v)) ≡ true → named room places least (longer step v d) ≡ true
 unfolding named
 named-longer room places least [] v d n a l t b o = named-cons room places least (record { vm = v; source = Unnamed; to = d }) [] l t b o refl
 named-longer room places least (move ∷ moves) v d n a l t b o =
     let h = ltb-true (move .vm) v (all-head (λ move. ltb (move .vm) v) move moves a) in
     named-cons room places least move (longer moves v d) (named-least room places least move moves n) (named-vm room places least move moves n)
-    (named-node room places least move moves n) (named-off room places least move moves n)
+    (named-sends room places least move moves n) (named-off room places least move moves n)
     (named-longer room places (suc (move .vm)) moves v d (named-rest room places least move moves n) (all-tail (λ move. ltb (move .vm) v) move moves a)
     (omega arith) t b o)
 
@@ -242,26 +249,26 @@ named-longer room places least (move ∷ moves) v d n a l t b o =
 
 unfoldable pub joins : Room → Placement → Step → ℕ → ℕ → Bool
 joins room places step v d =
-    (ltb v (length (room .vms)) && (ltb d (length (room .nodes)) && not (eqb d (placeOf places v)))) &&
+    (ltb v (length (room .vms)) && (aims room v d && not (eqb d (placeOf places v)))) &&
     (allowed room v d &&
-    (within (nodeOf room d) (withVm (tallyAt room d (allRunning (firstMoment room places step))) (vmOf room v)) &&
+    (bears room d (withVm (tallyAt room d (allRunning (firstMoment room places step))) (vmOf room v)) &&
     not (meetsMate room (allRunning (firstMoment room places step)) v d)))
 
 -- what a move that joins passes
 pub record Joins (room : Room) (places : Placement) (step : Step) (v d : ℕ) : Type 0 where
   pub vm-there : v < length (room .vms)
-  pub node-there : d < length (room .nodes)
+  pub aimed : aims room v d ≡ true
   pub off : not (eqb d (placeOf places v)) ≡ true
   pub allows : allowed room v d ≡ true
-  pub fit : within (nodeOf room d) (withVm (tallyAt room d (allRunning (firstMoment room places step))) (vmOf room v)) ≡ true
+  pub fit : bears room d (withVm (tallyAt room d (allRunning (firstMoment room places step))) (vmOf room v)) ≡ true
   pub apart : meetsMate room (allRunning (firstMoment room places step)) v d ≡ false
 
 pub joins-tests : (room : Room) (places : Placement) (step : Step) (v d : ℕ) → joins room places step v d ≡ true → Joins room places step v d
 unfolding joins
 joins-tests room places step v d e =
     let there : Bool = ltb v (length (room .vms)) in
-    let to : Bool = ltb d (length (room .nodes)) && not (eqb d (placeOf places v)) in
-    let f : Bool = within (nodeOf room d) (withVm (tallyAt room d (allRunning (firstMoment room places step))) (vmOf room v)) in
+    let to : Bool = aims room v d && not (eqb d (placeOf places v)) in
+    let f : Bool = bears room d (withVm (tallyAt room d (allRunning (firstMoment room places step))) (vmOf room v)) in
     let m : Bool = meetsMate room (allRunning (firstMoment room places step)) v d in
     let x : (there && to) ≡ true = and-left (there && to) (allowed room v d && (f && not m)) e in
     let y : (allowed room v d && (f && not m)) ≡ true = and-right (there && to) (allowed room v d && (f && not m)) e in
@@ -269,8 +276,8 @@ joins-tests room places step v d e =
     let z : (f && not m) ≡ true = and-right (allowed room v d) (f && not m) y in
     record {
       vm-there = ltb-true v (length (room .vms)) (and-left there to x);
-      node-there = ltb-true d (length (room .nodes)) (and-left (ltb d (length (room .nodes))) (not (eqb d (placeOf places v))) w);
-      off = and-right (ltb d (length (room .nodes))) (not (eqb d (placeOf places v))) w;
+      aimed = and-left (aims room v d) (not (eqb d (placeOf places v))) w;
+      off = and-right (aims room v d) (not (eqb d (placeOf places v))) w;
       allows = and-left (allowed room v d) (f && not m) y;
       fit = and-left f (not m) z;
       apart = not-true m (and-right f (not m) z);
@@ -283,10 +290,11 @@ unfolding all
 all-snoc q xs x = all-append q xs (x ∷ []) ∙ ap (λ (b : Bool). all q xs && b) (and-true (q x))
 
 -- a mate that arrives on the destination is met
-arrival-met : (room : Room) (places : Placement) (step : Step) (v d w : ℕ) → phaseOf step w ≡ waiting d → w < length (room .vms) → mates room v w ≡ true →
+arrival-met : (room : Room) (places : Placement) (step : Step) (v d w : ℕ) → onNode d ≡ true → phaseOf step w ≡ waiting d → w < length (room .vms) → mates room v w ≡ true →
     meetsMate room (allRunning (firstMoment room places step)) v d ≡ true
 unfolding meetsMate firstMoment begun countsOn
-arrival-met room places step v d w p h m =
+arrival-met room places step v d w n p h m =
+    ap (λ (b : Bool). pick b (some (λ c. mates room v (numberOf c) && countsOn d c) (allRunning (cellsFrom places step 0 (length (room .vms))))) false) n ∙
     some-at (λ c. mates room v (numberOf c) && countsOn d c) places step w (rw (m, p, eq-eqb d d refl) (or-true (eqb (placeOf places w) d))) 0 (length (room .vms))
     (omega arith) (omega arith)
 
@@ -299,23 +307,23 @@ module _ (room : Room) (places : Placement) (step : Step) (v d : ℕ) (a : all (
       last : (q : Move → Bool) → all q (longer step v d) ≡ true → q (record { vm = v; source = Unnamed; to = d }) ≡ true
       last q e = and-right (all q step) (q (record { vm = v; source = Unnamed; to = d })) (sym (all-snoc q step (record { vm = v; source = Unnamed; to = d })) ∙ e)
 
-      n : (ltb v (length (room .vms)) && (ltb d (length (room .nodes)) && not (eqb d (placeOf places v)))) ≡ true
+      n : (ltb v (length (room .vms)) && (aims room v d && not (eqb d (placeOf places v)))) ≡ true
       n = named-last room places 0 step v d (sound-named room places (longer step v d) s)
 
       t : v < length (room .vms)
-      t = ltb-true v (length (room .vms)) (and-left (ltb v (length (room .vms))) (ltb d (length (room .nodes)) && not (eqb d (placeOf places v))) n)
+      t = ltb-true v (length (room .vms)) (and-left (ltb v (length (room .vms))) (aims room v d && not (eqb d (placeOf places v))) n)
 
       o : d ≡ placeOf places v → ⊥
       o = eqb-false d (placeOf places v) (not-true (eqb d (placeOf places v))
-          (and-right (ltb d (length (room .nodes))) (not (eqb d (placeOf places v)))
-          (and-right (ltb v (length (room .vms))) (ltb d (length (room .nodes)) && not (eqb d (placeOf places v))) n)))
+          (and-right (aims room v d) (not (eqb d (placeOf places v)))
+          (and-right (ltb v (length (room .vms))) (aims room v d && not (eqb d (placeOf places v))) n)))
 
       p : allowed room v d ≡ true
       p = last (λ move. allowed room (move .vm) (move .to)) (sound-permitted room places (longer step v d) s)
 
-      f : within (nodeOf room d) (withVm (tallyAt room d (allRunning (firstMoment room places step))) (vmOf room v)) ≡ true
-      f = sym (ap (within (nodeOf room d)) (tally-there room places step v d a t o)) ∙
-          last (λ move. within (nodeOf room (move .to)) (tallyAt room (move .to) (allRunning (firstMoment room places (longer step v d))))) (sound-fitting room places (longer step v d) s)
+      f : bears room d (withVm (tallyAt room d (allRunning (firstMoment room places step))) (vmOf room v)) ≡ true
+      f = sym (ap (bears room d) (tally-there room places step v d a t o)) ∙
+          last (λ move. bears room (move .to) (tallyAt room (move .to) (allRunning (firstMoment room places (longer step v d))))) (sound-fitting room places (longer step v d) s)
 
       u : not (meetsMate room (allRunning (firstMoment room places step)) v d) ≡ true
       u = sym (ap not (meets-own room places step v d a t)) ∙
@@ -336,32 +344,33 @@ module _ (room : Room) (places : Placement) (step : Step) (v d : ℕ) (a : all (
       more q x y = all-snoc q step (record { vm = v; source = Unnamed; to = d }) ∙ and-both x y
 
       n : named room places 0 (longer step v d) ≡ true
-      n = named-longer room places 0 step v d (sound-named room places step s) a (omega arith) (j .vm-there) (j .node-there) (j .off)
+      n = named-longer room places 0 step v d (sound-named room places step s) a (omega arith) (j .vm-there) (j .aimed) (j .off)
 
       p : all (λ move. allowed room (move .vm) (move .to)) (longer step v d) ≡ true
       p = more (λ move. allowed room (move .vm) (move .to)) (sound-permitted room places step s) (j .allows)
 
-      there : within (nodeOf room d) (tallyAt room d (allRunning (firstMoment room places (longer step v d)))) ≡ true
-      there = ap (within (nodeOf room d)) (tally-there room places step v d a (j .vm-there) o) ∙ j .fit
+      there : bears room d (tallyAt room d (allRunning (firstMoment room places (longer step v d)))) ≡ true
+      there = ap (bears room d) (tally-there room places step v d a (j .vm-there) o) ∙ j .fit
 
-      anywhere : (x : Bool) (e : ℕ) → eqb d e ≡ x → within (nodeOf room e) (tallyAt room e (allRunning (firstMoment room places step))) ≡ true →
-          within (nodeOf room e) (tallyAt room e (allRunning (firstMoment room places (longer step v d)))) ≡ true
+      anywhere : (x : Bool) (e : ℕ) → eqb d e ≡ x → bears room e (tallyAt room e (allRunning (firstMoment room places step))) ≡ true →
+          bears room e (tallyAt room e (allRunning (firstMoment room places (longer step v d)))) ≡ true
       anywhere true e t h = rw (← eqb-true d e t) there
-      anywhere false e t h = ap (within (nodeOf room e)) (tally-else room places step v d a (j .vm-there) o e (eqb-false d e t)) ∙ h
+      anywhere false e t h = ap (bears room e) (tally-else room places step v d a (j .vm-there) o e (eqb-false d e t)) ∙ h
 
-      f : all (λ move. within (nodeOf room (move .to)) (tallyAt room (move .to) (allRunning (firstMoment room places (longer step v d))))) (longer step v d) ≡ true
-      f = more (λ move. within (nodeOf room (move .to)) (tallyAt room (move .to) (allRunning (firstMoment room places (longer step v d)))))
-          (all-more (λ move. within (nodeOf room (move .to)) (tallyAt room (move .to) (allRunning (firstMoment room places step))))
-          (λ move. within (nodeOf room (move .to)) (tallyAt room (move .to) (allRunning (firstMoment room places (longer step v d)))))
+      f : all (λ move. bears room (move .to) (tallyAt room (move .to) (allRunning (firstMoment room places (longer step v d))))) (longer step v d) ≡ true
+      f = more (λ move. bears room (move .to) (tallyAt room (move .to) (allRunning (firstMoment room places (longer step v d)))))
+          (all-more (λ move. bears room (move .to) (tallyAt room (move .to) (allRunning (firstMoment room places step))))
+          (λ move. bears room (move .to) (tallyAt room (move .to) (allRunning (firstMoment room places (longer step v d)))))
           (λ move h. anywhere (eqb d (move .to)) (move .to) refl h) step (sound-fitting room places step s)) there
 
       -- v is no mate of an older arrival on d
-      clear : (x y : Bool) (w e : ℕ) → phaseOf step w ≡ waiting e → w < length (room .vms) → mates room w v ≡ x → eqb d e ≡ y → (x && y) ≡ false
-      clear true true w e p h m t =
+      clear : (n x y : Bool) (w e : ℕ) → onNode e ≡ n → phaseOf step w ≡ waiting e → w < length (room .vms) → mates room w v ≡ x → eqb d e ≡ y → pick n (x && y) false ≡ false
+      clear true true true w e n p h m t =
           let q : phaseOf step w ≡ waiting d = p ∙ ap waiting (sym (eqb-true d e t)) in
-          absurd (false≢true (sym (j .apart) ∙ arrival-met room places step v d w q h (mates-sym room v w ∙ m)))
-      clear true false w e p h m t = refl
-      clear false y w e p h m t = refl
+          absurd (false≢true (sym (j .apart) ∙ arrival-met room places step v d w (ap onNode (eqb-true d e t) ∙ n) q h (mates-sym room v w ∙ m)))
+      clear true true false w e n p h m t = refl
+      clear true false y w e n p h m t = refl
+      clear false x y w e n p h m t = refl
 
       older : (i : ℕ) → i < length step →
           not (meetsMate room (allRunning (firstMoment room places (longer step v d))) (getD step i noMove .vm) (getD step i noMove .to)) ≡ true
@@ -372,7 +381,7 @@ module _ (room : Room) (places : Placement) (step : Step) (v d : ℕ) (a : all (
           (all-at (λ move. not (meetsMate room (allRunning (firstMoment room places step)) (move .vm) (move .to))) step i noMove (sound-unmet room places step s) h) in
           ap not (meets-added room places step v d a (j .vm-there) (moveOf step i .vm) (moveOf step i .to) ∙
           ap₂ (λ (x y : Bool). x || y) before
-          (clear (mates room (moveOf step i .vm) v) (eqb d (moveOf step i .to)) (moveOf step i .vm) (moveOf step i .to) (w .0) (w .2) refl refl))
+          (clear (onNode (moveOf step i .to)) (mates room (moveOf step i .vm) v) (eqb d (moveOf step i .to)) (moveOf step i .vm) (moveOf step i .to) refl (w .0) (w .2) refl refl))
 
       u : all (λ move. not (meetsMate room (allRunning (firstMoment room places (longer step v d))) (move .vm) (move .to))) (longer step v d) ≡ true
       u = more (λ move. not (meetsMate room (allRunning (firstMoment room places (longer step v d))) (move .vm) (move .to)))

@@ -18,11 +18,12 @@ use Rattle.records.specs.Inner.{Below, Parts}
 use Rattle.records.specs.declared.constraints.Kind.{Kind}
 use Rattle.records.specs.declared.constraints.Kind.the-variants.{Ban, Fence, Spread, Latency}
 use Rattle.records.specs.declared.faults.ClusterCheck.the-variants.{Whole}
-use Rattle.records.proofs.Laws.Bools.{and-left, and-right, and-both}
+use Rattle.records.proofs.Laws.Bools.{and-left, and-right, and-both, pick-same}
 use Rattle.records.proofs.Laws.Lists.{list-below}
 use Rattle.records.proofs.Laws.Cluster.{nodes-most, vms-most}
 use Rattle.records.proofs.Laws.Walk.{constraints-are, walk-start, walk-cons, walk-ok, vms-sound, nodes-sound}
 use Rattle.records.proofs.Laws.Parts.{parts-step}
+use Rattle.records.proofs.Laws.Rows.{node-on}
 use Rattle.rules.proofs.Laws.Sound.{all-more}
 use Rattle.rules.proofs.Laws.Tables.{table-length, table-at}
 use Rattle.rules.specs.Rules.{from, keepsFrom, allowed}
@@ -182,12 +183,8 @@ stopped-at marks (d ∷ ds) mark e z k =
     stopped-at (set marks d mark) ds mark e (length-set marks d mark ∙ z) k ∙
     by-cases (ℕ-discrete d e)
     (λ q. let l : e < length marks = rw z k in
-    simp (eq-eqb d e q) (rw (ap (λ (x : ℕ). getD (set marks x mark) e 0) q ∙ getD-set-same marks e mark 0 l) (both (has ds e) mark)))
+    simp (eq-eqb d e q) (rw (ap (λ (x : ℕ). getD (set marks x mark) e 0) q ∙ getD-set-same marks e mark 0 l) (pick-same (has ds e) mark)))
     (λ q. simp (ne-eqb d e q) (rw (getD-set-other marks d e mark 0 (λ x. q (sym x)))))
-  where
-    both : (b : Bool) (x : ℕ) → pick b x x ≡ x
-    both true x = refl
-    both false x = refl
 
 -- a constraint takes away what it keeps its VMs from
 flag-one : (b : Bool) → not (eqb (pick b 1 0) 0) ≡ b
@@ -283,7 +280,11 @@ unfolding allowed allowTable
 allow-end s table at left w inv z = ext-getD 0 table (map mark (from 0 16384)) (size ∙ sym (table-length mark 0 16384)) each
   where
     mark : ℕ → ℕ
-    mark i = pick (all (λ k. not (has (vmsOf k) (i / 64) && keepsFrom k (i % 64))) (roomOf s .constraints)) 1 0
+    mark i = pick (allowed (roomOf s) (i / 64) (i % 64)) 1 0
+
+    -- to a node
+    allowed-is : (u e : ℕ) → e < 64 → all (λ k. not (has (vmsOf k) u && keepsFrom k e)) (roomOf s .constraints) ≡ allowed (roomOf s) u e
+    allowed-is u e k = rw (node-on 64 e (omega arith) k)
 
     ones : length {A = ℕ} (replicate 16384 1) ≡ 16384
     ones = length-replicate {A = ℕ} 16384 1
@@ -306,7 +307,7 @@ allow-end s table at left w inv z = ext-getD 0 table (map mark (from 0 16384)) (
         let j : i / 64 * 64 + i % 64 < 16384 = omega arith in
         ap (getD table i) refl ∙ ap (λ (x : ℕ). getD table x 0) n ∙ ap (λ (t : List ℕ). getD t (i / 64 * 64 + i % 64) 0) whole ∙
         all-applied-at (replicate 16384 1) (partsFrom s (constraintsStart s) (constraintCount s)) (i / 64) (i % 64) ones low k ∙
-        rw (getD-replicate {A = ℕ} 16384 (i / 64 * 64 + i % 64) 1 0 j, ← constraints-are s) (sym (table-at mark 0 0 16384 i l ∙ ap mark o))
+        rw (getD-replicate {A = ℕ} 16384 (i / 64 * 64 + i % 64) 1 0 j, ← constraints-are s, allowed-is (i / 64) (i % 64) k) (sym (table-at mark 0 0 16384 i l ∙ ap mark o))
 
 -- what a walk over the VMs reads in the table
 pub table-allows : (s table : List ℕ) → table ≡ allowTable (roomOf s) → clusterCheck s ≡ Whole → Allows s table

@@ -14,16 +14,17 @@ use Rattle.records.specs.Room.{Room, roomOf, nodeCount, vmCount, clusterCheck}
 use Rattle.records.specs.Plan.{Move, Step, moveOf, moveCount, stepAt, stepEnd}
 use Rattle.records.specs.declared.faults.ClusterCheck.the-variants.{Whole}
 use Rattle.records.proofs.Laws.Cluster.{nodes-most, vms-most}
+use Rattle.records.proofs.Laws.Rows.{far-off}
 use Rattle.records.proofs.Laws.Steps.{step-length}
 use Rattle.rules.specs.Moments.{Placement, placeOf}
 use Rattle.rules.specs.Rules.{allowed, named, sourced, permitted, fitting, unmet, stepCheck}
-use Rattle.rules.specs.Inner.{held, Placed, Held, destsFrom, Ready, Loads, Aimed, Allows, Nodes, fitsIn, spreadOk, runningCheck}
+use Rattle.rules.specs.Inner.{held, Placed, Held, destsFrom, Ready, Loads, Aimed, Allows, fitsIn, spreadOk, runningCheck}
 use Rattle.rules.specs.declared.faults.StepFault.the-variants.{Misnamed, Elsewhere, Forbidden, Misfit, Mate}
 use Rattle.rules.specs.declared.faults.StepCheck.{StepCheck}
 use Rattle.rules.specs.declared.faults.StepCheck.the-variants.{Clear, Faulty}
 use Rattle.rules.specs.declared.tally.Tally.{Tally}
 use Rattle.rules.proofs.Laws.Places.{step-cons}
-use Rattle.rules.proofs.Laws.Fit.{named-is-aimed, named-ready, fitting-is, dests-most}
+use Rattle.rules.proofs.Laws.Fit.{named-is-aimed, named-ready, fitting-is}
 use Rattle.rules.proofs.Laws.Meet.{unmet-is}
 use Rattle.rules.proofs.Laws.Sources.{sourced-held}
 
@@ -37,33 +38,37 @@ module _ (s plan table : List ℕ) (at i n v d : ℕ) (e : v ≡ moveOf (stepAt 
   vm-there : v < vmCount s
   vm-there = rw e (a .vms i inside)
 
-  node-there : d < 64
-  node-there = let m = nodes-most s w in let k : d < nodeCount s = rw f (a .each i inside) in omega arith
-
-  pub move-index : v * 64 + d < 16384
-  move-index = let m = vms-most s w in let x = vm-there in let y = node-there in omega arith
+  pub move-index : d < 64 → v * 64 + d < 16384
+  move-index y = let m = vms-most s w in let x = vm-there in omega arith
 
   module _ (t : Allows s table) (result : Bool) (inv : permitted (roomOf s) (drop i (stepAt plan at)) ≡ result) where
     opened : (allowed (roomOf s) v d && permitted (roomOf s) (drop (suc i) (stepAt plan at))) ≡ result
     unfolding permitted all
     opened = let k : i < moveCount plan at = omega arith in rw (e, f) (simp (step-cons plan at i k) at inv)
 
-    mark : getD table (v * 64 + d) 0 ≡ pick (allowed (roomOf s) v d) 1 0
-    mark = t .each v d vm-there node-there
+    -- to no node: it may always go
+    pub allowed-off : 64 ≤ d → permitted (roomOf s) (drop (i + 1) (stepAt plan at)) ≡ result
+    unfolding allowed
+    allowed-off y =
+        let m = nodes-most s w in
+        rw add-one (rw (far-off (nodeCount s) d m (rw f (a .each i inside)) y) at opened)
 
-    pub allowed-not : getD table (v * 64 + d) 0 ≡ 0 → false ≡ result
-    allowed-not z = go (allowed (roomOf s) v d) refl
+    mark : d < 64 → getD table (v * 64 + d) 0 ≡ pick (allowed (roomOf s) v d) 1 0
+    mark y = t .each v d vm-there y
+
+    pub allowed-not : d < 64 → getD table (v * 64 + d) 0 ≡ 0 → false ≡ result
+    allowed-not y z = go (allowed (roomOf s) v d) refl
       where
         go : (b : Bool) → allowed (roomOf s) v d ≡ b → false ≡ result
-        go true x = let m : _≡_ {A = ℕ} 1 0 = sym (mark ∙ ap (λ (b : Bool). pick b 1 0) x) ∙ z in absurd (omega arith)
+        go true x = let m : _≡_ {A = ℕ} 1 0 = sym (mark y ∙ ap (λ (b : Bool). pick b 1 0) x) ∙ z in absurd (omega arith)
         go false x = simp x at opened
 
-    pub allowed-more : (getD table (v * 64 + d) 0 ≡ 0 → ⊥) → permitted (roomOf s) (drop (i + 1) (stepAt plan at)) ≡ result
-    allowed-more z = go (allowed (roomOf s) v d) refl
+    pub allowed-more : d < 64 → (getD table (v * 64 + d) 0 ≡ 0 → ⊥) → permitted (roomOf s) (drop (i + 1) (stepAt plan at)) ≡ result
+    allowed-more y z = go (allowed (roomOf s) v d) refl
       where
         go : (b : Bool) → allowed (roomOf s) v d ≡ b → permitted (roomOf s) (drop (i + 1) (stepAt plan at)) ≡ result
         go true x = rw add-one (simp x at opened)
-        go false x = absurd (z (mark ∙ ap (λ (b : Bool). pick b 1 0) x))
+        go false x = absurd (z (mark y ∙ ap (λ (b : Bool). pick b 1 0) x))
 
 pub allowed-end : (s plan : List ℕ) (at i n : ℕ) (result : Bool) → n ≡ moveCount plan at → permitted (roomOf s) (drop i (stepAt plan at)) ≡ result → n ≤ i → true ≡ result
 unfolding permitted all
@@ -72,9 +77,6 @@ allowed-end s plan at i n result q inv h =
     rw (drop-of-length-le (stepAt plan at) k) at inv
 
 -- ---- what the later tests need
-
-pub placed-nodes : (s places : List ℕ) → clusterCheck s ≡ Whole → Placed s places → Nodes places
-placed-nodes s places w p = record { each = λ v. let m = nodes-most s w in let b = p .below v in omega arith }
 
 pub named-held : (s plan places : List ℕ) (at : ℕ) (ok : Bool) → ok ≡ named (roomOf s) (held s places) 0 (stepAt plan at) → clusterCheck s ≡ Whole → stepEnd plan at ≤ length plan →
     Placed s places → ok ≡ true → Held s plan at places
@@ -90,15 +92,9 @@ module _ (s plan places : List ℕ) (at : ℕ) (h : Held s plan at places) where
   pub held-aimed : Aimed s (stepAt plan at)
   held-aimed = named-is-aimed s places (stepAt plan at) (h .whole) (h .well-named)
 
-  pub held-nodes : Nodes places
-  held-nodes = placed-nodes s places (h .whole) (h .placed)
-
   module _ (dests : List ℕ) (e : dests ≡ destsFrom (stepAt plan at)) where
     pub held-ready : Ready s places dests
-    held-ready = rw e (named-ready s places (stepAt plan at) (h .whole) (h .well-named) (h .placed .below))
-
-    pub held-dests : Nodes dests
-    held-dests = rw e (record { each = dests-most s places (stepAt plan at) (h .whole) (h .well-named) })
+    held-ready = rw e (named-ready s places (stepAt plan at) (h .whole) (h .well-named))
 
     module _ (sums : List Tally) (fits : Bool) (l : Loads s places dests sums) (f : fits ≡ fitsIn (roomOf s) sums (stepAt plan at)) where
       fits-is : fits ≡ fitting (roomOf s) (held s places) (stepAt plan at)

@@ -1,12 +1,15 @@
 -- The contract of `check` as one law: every two records, and the number that the verdict on them packs to, have what `Checked` promises. Behind
 -- it what follows of two calls.
-use Prim.Native.Nat.{ℕ, suc, _<_, _^_}
+use Prim.Native.Nat.{ℕ, suc, _≤_, _<_, _^_}
 use mathlib.Core.List.{List, []}
 use mathlib.Core.Logic.{_↔_, _⊎_, Iff·trans}
 use mathlib.Core.Path.{_≡_, refl, sym, ap, _∙_}
+use lib.ListN.{length}
 use Rattle.records.specs.Bytes.{AreBytes}
-use Rattle.records.specs.Room.{roomOf}
+use Rattle.records.specs.Room.{roomOf, clusterCheck}
 use Rattle.records.specs.Plan.{Step, stepsOf, headerBytes}
+use Rattle.records.specs.declared.faults.ClusterCheck.{ClusterCheck}
+use Rattle.records.proofs.Laws.Cluster.{nodes-most, nodes-count}
 use Rattle.records.proofs.Laws.Steps.{all-tell, none-tells}
 use Rattle.rules.specs.Moments.{Placement, currentOf}
 use Rattle.rules.specs.Rules.{stepCheck}
@@ -21,6 +24,7 @@ use Rattle.rules.specs.declared.faults.Verdict.{Verdict}
 use Rattle.rules.proofs.Laws.Returned.{tells-accepted, tells-refused, says-accepted, accepted-says, says-refused}
 use Rattle.rules.proofs.Laws.Runs.{sound-orders, stays-within}
 use Rattle.rules.proofs.Laws.Spreads.{stays-apart}
+use Rattle.rules.proofs.Laws.Running.{keeps-running, nothing-down}
 use Rattle.rules.proofs.Laws.Sources.{names-places, unnamed-sourced, sources-unread}
 use Rattle.rules.proofs.Laws.Costs.{cost-low}
 use Rattle.rules.proofs.Laws.Verdicts.{names-fault, source-fault, destination-fault, fit-fault, mate-fault, first-fault, ends-away, current-length, accepted-steps, only-holds, exact-holds, step-refusal, none-elsewhere, end-refusal, step-most, empty-as-header}
@@ -35,6 +39,10 @@ module _ (cluster plan : List ℕ) (b : AreBytes cluster) where
 
   cost-most : (cost : ℕ) → verdictOf cluster plan ≡ Verdict.Accepted cost → cost < 2 ^ 43
   cost-most cost e = rw (cost-is cost e) (cost-low cluster plan b (only-holds cluster plan cost e .0 .plan-whole))
+
+  -- there are no more nodes than a place can name
+  few : clusterCheck cluster ≡ ClusterCheck.Whole → length (roomOf cluster .nodes) ≤ 64
+  few w = rw (nodes-count cluster) (nodes-most cluster w)
 
   -- the number tells the verdict
   tells : TellsVerdict (packed (verdictOf cluster plan)) (verdictOf cluster plan)
@@ -81,9 +89,14 @@ module _ (cluster plan : List ℕ) (b : AreBytes cluster) where
       cost = λ g. cost-is (toldCost r) (accepted g);
       below = λ g. cost-most (toldCost r) (accepted g);
       auditor = λ g.
-          stays-within (roomOf cluster) (currentOf (roomOf cluster)) (stepsOf plan) (accepted-steps cluster plan (toldCost r) (accepted g) .sound) (current-length (roomOf cluster));
+          stays-within (roomOf cluster) (currentOf (roomOf cluster)) (stepsOf plan) (few (only-holds cluster plan (toldCost r) (accepted g) .0 .cluster-whole))
+          (accepted-steps cluster plan (toldCost r) (accepted g) .sound) (current-length (roomOf cluster));
       apart = λ g.
           stays-apart (roomOf cluster) (currentOf (roomOf cluster)) (stepsOf plan) (accepted-steps cluster plan (toldCost r) (accepted g) .sound) (current-length (roomOf cluster));
+      running = λ g.
+          let o = only-holds cluster plan (toldCost r) (accepted g) in
+          keeps-running (roomOf cluster) (currentOf (roomOf cluster)) (stepsOf plan) (few (o .0 .cluster-whole)) (o .1) (current-length (roomOf cluster));
+      version-1 = nothing-down cluster;
       sources = λ g v.
           let a = accepted-steps cluster plan (toldCost r) (accepted g) in
           names-places (roomOf cluster) (currentOf (roomOf cluster)) (stepsOf plan) (current-length (roomOf cluster)) (a .sound) (a .well-sourced) (all-tell plan v);

@@ -1,5 +1,6 @@
 -- Laws on the cost: the passes over a step's moves, and the pass over the steps.
 use Prim.Native.Nat.{ℕ, suc, _+_, _-_, _*_, _≤_, _<_, _^_, max}
+use mathlib.Core.Bool.{Bool, true, false}
 use mathlib.Core.List.{List, [], _∷_}
 use mathlib.Core.Path.{_≡_, sym, ap, _∙_}
 use native.Mathlib.Nat.{add-assoc, add-zero}
@@ -7,10 +8,11 @@ use native.Mathlib.Omega.{arith}
 use lib.ListN.{length, drop, drop-of-length-le, List·getD-eq-default}
 use mir.Syntax.{w64}
 use mir.Val.{Fits}
-use Rattle.records.specs.Base.{sumOf}
+use borrow.Author.Tests.{eq-eqb, ne-eqb}
+use Rattle.records.specs.Base.{pick, sumOf}
 use Rattle.records.specs.Bytes.{AreBytes}
-use Rattle.records.specs.Room.{Room, Vm, noVm, vmOf, roomOf, vmCount}
-use Rattle.records.specs.Plan.{Step, moveOf, moveCount, stepAt, stepEnd, stepCount, stepsFrom, stepsOf, moveTotal, planCheck}
+use Rattle.records.specs.Room.{Room, Vm, noVm, vmOf, nowhere, onNode, roomOf, vmCount}
+use Rattle.records.specs.Plan.{Move, Step, moveOf, moveCount, stepAt, stepEnd, stepCount, stepsFrom, stepsOf, moveTotal, planCheck}
 use Rattle.records.specs.Inner.{Steps}
 use Rattle.records.specs.declared.faults.PlanCheck.the-variants.{Whole}
 use Rattle.records.proofs.Laws.Cluster.{vms-count, vm-memory-most}
@@ -25,9 +27,20 @@ memory-none s v n q h =
     let l : length (roomOf s .vms) ≤ v = rw (vms-count s) (omega arith) in
     sym (ap (λ (m : Vm). m .memory) (List·getD-eq-default (roomOf s .vms) noVm l))
 
+-- ---- the memory of a move
+
+module _ (s plan : List ℕ) (at i d : ℕ) (e : d ≡ moveOf (stepAt plan at) i .to) where
+  pub memory-off : d ≡ nowhere → 0 ≡ memoryOf (roomOf s) (moveOf (stepAt plan at) i)
+  unfolding memoryOf onNode
+  memory-off h = rw (eq-eqb (moveOf (stepAt plan at) i .to) nowhere (sym e ∙ h))
+
+  pub memory-on : (v m : ℕ) → v ≡ moveOf (stepAt plan at) i .vm → m ≡ vmOf (roomOf s) v .memory → (d ≡ nowhere → ⊥) → m ≡ memoryOf (roomOf s) (moveOf (stepAt plan at) i)
+  unfolding memoryOf onNode
+  memory-on v m f g h = g ∙ rw (ne-eqb (moveOf (stepAt plan at) i .to) nowhere (λ q. h (e ∙ q)), f)
+
 -- ---- the passes over the moves, last to first
 
-module _ (s plan : List ℕ) (at i v m : ℕ) (e : v ≡ moveOf (stepAt plan at) (i - 1) .vm) (f : m ≡ vmOf (roomOf s) v .memory) (h : 0 < i) (k : i ≤ moveCount plan at) where
+module _ (s plan : List ℕ) (at i m : ℕ) (f : m ≡ memoryOf (roomOf s) (moveOf (stepAt plan at) (i - 1))) (h : 0 < i) (k : i ≤ moveCount plan at) where
   cons : drop (i - 1) (stepAt plan at) ≡ moveOf (stepAt plan at) (i - 1) ∷ drop i (stepAt plan at)
   cons =
       let j : i - 1 < moveCount plan at = omega arith in
@@ -35,12 +48,12 @@ module _ (s plan : List ℕ) (at i v m : ℕ) (e : v ≡ moveOf (stepAt plan at)
       step-cons plan at (i - 1) j ∙ ap (λ (n : ℕ). moveOf (stepAt plan at) (i - 1) ∷ drop n (stepAt plan at)) l
 
   pub max-more : (most next : ℕ) → next ≡ max m most → most ≡ stepCost (roomOf s) (drop i (stepAt plan at)) → next ≡ stepCost (roomOf s) (drop (i - 1) (stepAt plan at))
-  unfolding stepCost memoryOf
-  max-more most next g inv = rw cons (g ∙ rw (f, e, inv))
+  unfolding stepCost
+  max-more most next g inv = rw cons (g ∙ rw (f, inv))
 
   pub sum-more : (before sum : ℕ) → sum ≡ movesCost (roomOf s) before (drop i (stepAt plan at)) → sum + (m + before) ≡ movesCost (roomOf s) before (drop (i - 1) (stepAt plan at))
-  unfolding movesCost memoryOf sumOf
-  sum-more before sum inv = rw cons (rw (← e, ← f, ← inv) (omega arith))
+  unfolding movesCost sumOf
+  sum-more before sum inv = rw cons (rw (← f, ← inv) (omega arith))
 
 pub max-start : (s plan : List ℕ) (at n : ℕ) → n ≡ moveCount plan at → 0 ≡ stepCost (roomOf s) (drop n (stepAt plan at))
 unfolding stepCost
@@ -107,15 +120,23 @@ cost-bound plan n r q w h = let t = cost-start plan n q w .total in omega arith
 -- ---- the bound, over the definitions alone
 
 module _ (room : Room) (low : (v : ℕ) → vmOf room v .memory < 2 ^ 24) where
+  memory-low : (move : Move) → memoryOf room move < 2 ^ 24
+  unfolding memoryOf
+  memory-low move = go (onNode (move .to))
+    where
+      go : (b : Bool) → pick b (vmOf room (move .vm) .memory) 0 < 2 ^ 24
+      go true = low (move .vm)
+      go false = omega arith
+
   step-low : (step : Step) → stepCost room step ≤ 16777215
-  unfolding stepCost memoryOf
+  unfolding stepCost
   step-low [] = omega arith
-  step-low (move ∷ moves) = let h = low (move .vm) in let k = step-low moves in omega arith
+  step-low (move ∷ moves) = let h = memory-low move in let k = step-low moves in omega arith
 
   moves-low : (before : ℕ) (step : Step) → before + 16777215 ≤ 8589934080 → sumOf (λ move. memoryOf room move + before) step ≤ length step * 8589934080
-  unfolding sumOf memoryOf
+  unfolding sumOf
   moves-low before [] b = omega arith
-  moves-low before (move ∷ moves) b = let h = low (move .vm) in let k = moves-low before moves b in omega arith
+  moves-low before (move ∷ moves) b = let h = memory-low move in let k = moves-low before moves b in omega arith
 
   from-low : (before : ℕ) (steps : List Step) → before + length steps * 16777215 ≤ 8589934080 → costFrom room before steps ≤ moveTotal steps * 8589934080
   unfolding costFrom moveTotal sumOf

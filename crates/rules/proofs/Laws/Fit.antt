@@ -1,31 +1,29 @@
 -- Laws on refusal 17: the pass over the destinations, and the sums as the tallies of the moment when every move runs.
-use Prim.Native.Nat.{ℕ, zero, suc, _+_, _-_, _*_, _≤_, _<_}
-use mathlib.Core.Bool.{Bool, true, false, not, _&&_}
+use Prim.Native.Nat.{ℕ, zero, suc, _+_, _-_, _≤_, _<_}
+use mathlib.Core.Bool.{Bool, true, false, not, _&&_, _||_, or-true}
 use mathlib.Core.List.{List, [], _∷_}
 use mathlib.Core.Logic.{_⊎_, inl, inr, ⊎-elim, by-cases}
-use mathlib.Core.Path.{_≡_, refl, sym, ap, _∙_}
+use mathlib.Core.Path.{_≡_, refl, sym, ap, ap₂, _∙_}
 use native.Mathlib.Decide.{ℕ-discrete, decLt}
 use native.Mathlib.Numerals.{add-one}
 use native.Mathlib.Omega.{arith}
-use lib.ListN.{length, getD, set, drop, length-set, length-replicate, getD-replicate, drop-of-length-le, List·getD-eq-default}
+use lib.ListN.{length, getD, set, drop, length-set, length-replicate, getD-replicate, drop-of-length-le}
 use lib.Seq.{getD-take, getD-set-same, getD-set-other}
 use lib.Dec.{ltb, leb, eqb}
-use mir.Syntax.{w64}
-use mir.Val.{Fits}
-use borrow.Author.Tests.{lt-ltb, le-leb, lt-leb, ltb-true, eq-eqb, ne-eqb, eqb-false, not-true}
+use borrow.Author.Tests.{le-leb, lt-leb, ltb-true, eq-eqb, ne-eqb, eqb-false, not-true}
 use Rattle.records.specs.Base.{all}
-use Rattle.records.specs.Room.{Room, Node, nodeOf, roomOf, nodeCount, vmCount, clusterCheck}
+use Rattle.records.specs.Room.{Room, Node, nodeOf, nowhere, roomOf, nodeCount, vmCount, placeOk, clusterCheck}
 use Rattle.records.specs.Plan.{Move, Step, moveOf, moveCount, stepAt}
 use Rattle.records.specs.declared.faults.ClusterCheck.the-variants.{Whole}
 use Rattle.records.proofs.Laws.Bools.{and-left, and-right, and-both}
 use Rattle.records.proofs.Laws.Cluster.{nodes-most, vms-most, vms-count, nodes-count}
+use Rattle.records.proofs.Laws.Rows.{near-node, near-on, far-off, not-between, place-more}
 use Rattle.records.proofs.Laws.Steps.{step-length}
-use Rattle.rules.specs.Moments.{Placement, placeOf, waiting, emptyTally, within, tallyAt, phaseOf, cellsFrom, firstMoment, begun, allRunning}
-use Rattle.rules.specs.Rules.{named, fitting}
+use Rattle.rules.specs.Moments.{Placement, placeOf, targetOf, waiting, emptyTally, within, bears, tallyAt, phaseOf, cellsFrom, firstMoment, begun, allRunning}
+use Rattle.rules.specs.Rules.{aims, named, fitting}
 use Rattle.rules.specs.Inner.{held, destsFrom, goalIn, busyFrom, Ready, Loads, Aimed, fitsIn}
 use Rattle.rules.specs.declared.tally.Tally.{Tally}
 use Rattle.rules.proofs.Laws.Places.{step-cons}
-use Rattle.rules.proofs.Laws.Loads.{loads-each}
 
 -- ---- a tally within a node
 
@@ -40,28 +38,34 @@ module _ (node : Node) (t : Tally) (memory : ℕ) (e : memory ≡ node .memory) 
 
 -- ---- the pass over the destinations
 
-module _ (s plan : List ℕ) (at i n d : ℕ) (h : i < n) (q : n ≡ moveCount plan at) (e : d ≡ moveOf (stepAt plan at) i .to) (a : Aimed s (stepAt plan at)) where
-  pub aimed-below : d < nodeCount s
-  aimed-below = rw e (a .each i (rw (step-length plan at) (omega arith)))
+module _ (s plan : List ℕ) (at i n d : ℕ) (h : i < n) (q : n ≡ moveCount plan at) (e : d ≡ moveOf (stepAt plan at) i .to) (a : Aimed s (stepAt plan at))
+    (w : clusterCheck s ≡ Whole) where
+  aimed-place : placeOk true (nodeCount s) d ≡ true
+  aimed-place = rw e (a .each i (rw (step-length plan at) (omega arith)))
 
-  module _ (w : clusterCheck s ≡ Whole) where
-    pub aimed-index : d < 65
-    aimed-index = let b = aimed-below in let m = nodes-most s w in omega arith
+  pub aimed-below : d < 64 → d < nodeCount s
+  aimed-below k = near-node (nodeCount s) d (nodes-most s w) aimed-place k
 
-    pub aimed-offset : Fits w64 (d * 16)
-    aimed-offset = let b = aimed-below in let m = nodes-most s w in record { fits = omega arith }
+  module _ (sums : List Tally) (result : Bool) (inv : fitsIn (roomOf s) sums (drop i (stepAt plan at)) ≡ result) where
+    opened : (bears (roomOf s) d (getD sums d emptyTally) && fitsIn (roomOf s) sums (drop (suc i) (stepAt plan at))) ≡ result
+    unfolding fitsIn all
+    opened = let k : i < moveCount plan at = omega arith in rw e (simp (step-cons plan at i k) at inv)
 
-module _ (s plan : List ℕ) (at i n d : ℕ) (sums : List Tally) (ok result : Bool) (f : ok ≡ within (nodeOf (roomOf s) d) (getD sums d emptyTally))
-    (e : d ≡ moveOf (stepAt plan at) i .to) (q : n ≡ moveCount plan at) (inv : fitsIn (roomOf s) sums (drop i (stepAt plan at)) ≡ result) (h : i < n) where
-  opened : (ok && fitsIn (roomOf s) sums (drop (suc i) (stepAt plan at))) ≡ result
-  unfolding fitsIn all
-  opened = let k : i < moveCount plan at = omega arith in rw (f, e) (simp (step-cons plan at i k) at inv)
+    -- to no node: it always fits
+    pub fits-off : 64 ≤ d → fitsIn (roomOf s) sums (drop (i + 1) (stepAt plan at)) ≡ result
+    unfolding bears
+    fits-off k = rw add-one (rw (far-off (nodeCount s) d (nodes-most s w) aimed-place k) at opened)
 
-  pub fits-not : ok ≡ false → false ≡ result
-  fits-not o = simp o at opened
+    module _ (k : d < 64) (ok : Bool) (f : ok ≡ within (nodeOf (roomOf s) d) (getD sums d emptyTally)) where
+      opened-node : (ok && fitsIn (roomOf s) sums (drop (suc i) (stepAt plan at))) ≡ result
+      unfolding bears
+      opened-node = rw f (rw (near-on (nodeCount s) d (nodes-most s w) aimed-place k) at opened)
 
-  pub fits-more : ok ≡ true → fitsIn (roomOf s) sums (drop (i + 1) (stepAt plan at)) ≡ result
-  fits-more o = rw add-one (simp o at opened)
+      pub fits-not : ok ≡ false → false ≡ result
+      fits-not o = simp o at opened-node
+
+      pub fits-more : ok ≡ true → fitsIn (roomOf s) sums (drop (i + 1) (stepAt plan at)) ≡ result
+      fits-more o = rw add-one (simp o at opened-node)
 
 pub fits-end : (s plan : List ℕ) (at i n : ℕ) (sums : List Tally) (result : Bool) → n ≡ moveCount plan at → fitsIn (roomOf s) sums (drop i (stepAt plan at)) ≡ result →
     n ≤ i → true ≡ result
@@ -77,21 +81,21 @@ unfolding destsFrom
 dests-length [] = simp length-replicate
 dests-length (move ∷ moves) = length-set (destsFrom moves) (move .vm) (move .to) ∙ dests-length moves
 
--- each move goes to a node below 64
+-- each move goes to a place
 far : Step → Bool
-far step = all (λ move. ltb (move .to) 64) step
+far step = all (λ move. placeOk true 64 (move .to)) step
 
 goal-is : (step : Step) (v : ℕ) → v < 256 → far step ≡ true → goalIn (destsFrom step) v ≡ begun (phaseOf step v)
 unfolding goalIn destsFrom phaseOf begun far all
 goal-is [] v h a = rw (getD-replicate {A = ℕ} 256 v 64 0 h)
 goal-is (move ∷ moves) v h a =
     by-cases (ℕ-discrete (move .vm) v)
-    (λ e. let l : move .to < 64 = ltb-true (move .to) 64 (and-left (ltb (move .to) 64) (all (λ m. ltb (m .to) 64) moves) a) in
+    (λ e. let l = not-between 64 (move .to) (omega arith) (and-left (placeOk true 64 (move .to)) (all (λ m. placeOk true 64 (m .to)) moves) a) in
     let k : v < length (destsFrom moves) = rw (dests-length moves) h in
-    simp (eq-eqb (move .vm) v e) (rw (ap (λ (u : ℕ). getD (set (destsFrom moves) u (move .to)) v 0) e ∙ getD-set-same (destsFrom moves) v (move .to) 0 k, ne-eqb (move .to) 64 (λ x. omega arith))))
+    simp (eq-eqb (move .vm) v e) (rw (ap (λ (u : ℕ). getD (set (destsFrom moves) u (move .to)) v 0) e ∙ getD-set-same (destsFrom moves) v (move .to) 0 k, ne-eqb (move .to) 64 l)))
     (λ e. simp (ne-eqb (move .vm) v e)
     (rw (getD-set-other (destsFrom moves) (move .vm) v (move .to) 0 (λ x. e (sym x)))
-    (goal-is moves v h (and-right (ltb (move .to) 64) (all (λ m. ltb (m .to) 64) moves) a))))
+    (goal-is moves v h (and-right (placeOk true 64 (move .to)) (all (λ m. placeOk true 64 (m .to)) moves) a))))
 
 dest-waits : (step : Step) (v : ℕ) → v < 256 → getD (destsFrom step) v 0 < 64 → phaseOf step v ≡ waiting (getD (destsFrom step) v 0)
 unfolding destsFrom phaseOf
@@ -126,28 +130,38 @@ pub held-at : (s places : List ℕ) (v : ℕ) → v < vmCount s → placeOf (hel
 unfolding held
 held-at s places v h = getD-take (vmCount s) places v 0 h
 
+-- where a VM can be sent is a place
+pub aims-place : (s : List ℕ) (v d : ℕ) → aims (roomOf s) v d ≡ true → placeOk true (nodeCount s) d ≡ true
+unfolding aims placeOk
+aims-place s v d e = go (ltb d (length (roomOf s .nodes))) refl e
+  where
+    go : (b : Bool) → ltb d (length (roomOf s .nodes)) ≡ b → (b || (eqb d nowhere && eqb (placeOf (targetOf (roomOf s)) v) nowhere)) ≡ true →
+        (ltb d (nodeCount s) || eqb d nowhere) ≡ true
+    go true t h = rw (← nodes-count s, t)
+    go false t h = rw (and-left (eqb d nowhere) (eqb (placeOf (targetOf (roomOf s)) v) nowhere) h) (or-true (ltb d (nodeCount s)))
+
 -- ---- what a well named step has
 
 module _ (s : List ℕ) (places : Placement) where
   -- its parts
   named-parts : (least : ℕ) (move : Move) (moves : Step) → named (roomOf s) places least (move ∷ moves) ≡ true →
       ((leb least (move .vm) && ltb (move .vm) (vmCount s)) &&
-      ((ltb (move .to) (nodeCount s) && not (eqb (move .to) (placeOf places (move .vm)))) && named (roomOf s) places (suc (move .vm)) moves)) ≡ true
+      ((aims (roomOf s) (move .vm) (move .to) && not (eqb (move .to) (placeOf places (move .vm)))) && named (roomOf s) places (suc (move .vm)) moves)) ≡ true
   unfolding named
-  named-parts least move moves e = simp (vms-count, nodes-count) at e
+  named-parts least move moves e = simp vms-count at e
 
-  pub named-to : (least : ℕ) (move : Move) (moves : Step) → named (roomOf s) places least (move ∷ moves) ≡ true → move .to < nodeCount s
+  pub named-to : (least : ℕ) (move : Move) (moves : Step) → named (roomOf s) places least (move ∷ moves) ≡ true → placeOk true (nodeCount s) (move .to) ≡ true
   named-to least move moves e =
-      ltb-true (move .to) (nodeCount s)
-      (and-left (ltb (move .to) (nodeCount s)) (not (eqb (move .to) (placeOf places (move .vm))))
-      (and-left (ltb (move .to) (nodeCount s) && not (eqb (move .to) (placeOf places (move .vm)))) _
+      aims-place s (move .vm) (move .to)
+      (and-left (aims (roomOf s) (move .vm) (move .to)) (not (eqb (move .to) (placeOf places (move .vm))))
+      (and-left (aims (roomOf s) (move .vm) (move .to) && not (eqb (move .to) (placeOf places (move .vm)))) _
       (and-right (leb least (move .vm) && ltb (move .vm) (vmCount s)) _ (named-parts least move moves e))))
 
   named-leaves : (least : ℕ) (move : Move) (moves : Step) → named (roomOf s) places least (move ∷ moves) ≡ true → move .to ≡ placeOf places (move .vm) → ⊥
   named-leaves least move moves e =
       eqb-false (move .to) (placeOf places (move .vm)) (not-true (eqb (move .to) (placeOf places (move .vm)))
-      (and-right (ltb (move .to) (nodeCount s)) (not (eqb (move .to) (placeOf places (move .vm))))
-      (and-left (ltb (move .to) (nodeCount s) && not (eqb (move .to) (placeOf places (move .vm)))) _
+      (and-right (aims (roomOf s) (move .vm) (move .to)) (not (eqb (move .to) (placeOf places (move .vm))))
+      (and-left (aims (roomOf s) (move .vm) (move .to) && not (eqb (move .to) (placeOf places (move .vm)))) _
       (and-right (leb least (move .vm) && ltb (move .vm) (vmCount s)) _ (named-parts least move moves e)))))
 
   pub named-vm : (least : ℕ) (move : Move) (moves : Step) → named (roomOf s) places least (move ∷ moves) ≡ true → move .vm < vmCount s
@@ -158,10 +172,10 @@ module _ (s : List ℕ) (places : Placement) where
 
   pub named-rest : (least : ℕ) (move : Move) (moves : Step) → named (roomOf s) places least (move ∷ moves) ≡ true → named (roomOf s) places (suc (move .vm)) moves ≡ true
   named-rest least move moves e =
-      and-right (ltb (move .to) (nodeCount s) && not (eqb (move .to) (placeOf places (move .vm)))) _
+      and-right (aims (roomOf s) (move .vm) (move .to) && not (eqb (move .to) (placeOf places (move .vm)))) _
       (and-right (leb least (move .vm) && ltb (move .vm) (vmCount s)) _ (named-parts least move moves e))
 
-  named-aimed : (least : ℕ) (step : Step) → named (roomOf s) places least step ≡ true → (i : ℕ) → i < length step → moveOf step i .to < nodeCount s
+  named-aimed : (least : ℕ) (step : Step) → named (roomOf s) places least step ≡ true → (i : ℕ) → i < length step → placeOk true (nodeCount s) (moveOf step i .to) ≡ true
   unfolding moveOf
   named-aimed least [] e i h = absurd (omega arith)
   named-aimed least (move ∷ moves) e zero h = named-to least move moves e
@@ -177,31 +191,33 @@ module _ (s : List ℕ) (places : Placement) where
   unfolding far all
   named-far least [] m e = refl
   named-far least (move ∷ moves) m e =
-      let t = named-to least move moves e in
-      and-both (lt-ltb (move .to) 64 (omega arith)) (named-far (suc (move .vm)) moves m (named-rest least move moves e))
+      and-both (place-more (nodeCount s) 64 (move .to) m (named-to least move moves e)) (named-far (suc (move .vm)) moves m (named-rest least move moves e))
 
   -- no VM is sent where it is
   named-goal : (least : ℕ) (step : Step) (v : ℕ) → v < 256 → named (roomOf s) places least step ≡ true →
-      (getD (destsFrom step) v 0 ≡ 64) ⊎ ((getD (destsFrom step) v 0 < nodeCount s) × (getD (destsFrom step) v 0 ≡ placeOf places v → ⊥))
+      (getD (destsFrom step) v 0 ≡ 64) ⊎ (getD (destsFrom step) v 0 ≡ placeOf places v → ⊥)
   unfolding destsFrom
   named-goal least [] v h e = inl (getD-replicate {A = ℕ} 256 v 64 0 h)
   named-goal least (move ∷ moves) v h e =
       by-cases (ℕ-discrete (move .vm) v)
       (λ x. let k : v < length (destsFrom moves) = rw (dests-length moves) h in
       let g : getD (set (destsFrom moves) (move .vm) (move .to)) v 0 ≡ move .to = ap (λ (u : ℕ). getD (set (destsFrom moves) u (move .to)) v 0) x ∙ getD-set-same (destsFrom moves) v (move .to) 0 k in
-      inr (rw g (named-to least move moves e), λ y. named-leaves least move moves e (sym g ∙ y ∙ ap (placeOf places) (sym x))))
+      inr (λ y. named-leaves least move moves e (sym g ∙ y ∙ ap (placeOf places) (sym x))))
       (λ x. rw (getD-set-other (destsFrom moves) (move .vm) v (move .to) 0 (λ y. x (sym y))) (named-goal (suc (move .vm)) moves v h (named-rest least move moves e)))
 
 -- tests of tallies that agree on all nodes below 64
 each-same : (sums : List Tally) (tally : ℕ → Tally) (room : Room) (step : Step) → far step ≡ true → ((d : ℕ) → d < 64 → getD sums d emptyTally ≡ tally d) →
-    all (λ move. within (nodeOf room (move .to)) (getD sums (move .to) emptyTally)) step ≡ all (λ move. within (nodeOf room (move .to)) (tally (move .to))) step
-unfolding far all
+    all (λ move. bears room (move .to) (getD sums (move .to) emptyTally)) step ≡ all (λ move. bears room (move .to) (tally (move .to))) step
+unfolding far all bears
 each-same sums tally room [] f e = refl
 each-same sums tally room (move ∷ moves) f e =
-    rw (
-      e (move .to) (ltb-true (move .to) 64 (and-left (ltb (move .to) 64) (all (λ m. ltb (m .to) 64) moves) f)),
-      each-same sums tally room moves (and-right (ltb (move .to) 64) (all (λ m. ltb (m .to) 64) moves) f) e,
-    )
+    ap₂ (λ (x y : Bool). x && y) (one (and-left (placeOk true 64 (move .to)) (all (λ m. placeOk true 64 (m .to)) moves) f))
+    (each-same sums tally room moves (and-right (placeOk true 64 (move .to)) (all (λ m. placeOk true 64 (m .to)) moves) f) e)
+  where
+    one : placeOk true 64 (move .to) ≡ true → bears room (move .to) (getD sums (move .to) emptyTally) ≡ bears room (move .to) (tally (move .to))
+    one p =
+        by-cases (decLt (move .to) 64) (λ h. rw (e (move .to) h))
+        (λ h. let k : 64 ≤ move .to = omega arith in rw (far-off 64 (move .to) (omega arith) p k))
 
 pub first-is : (s : List ℕ) (places : Placement) (step : Step) → firstMoment (roomOf s) places step ≡ cellsFrom places step 0 (vmCount s)
 unfolding firstMoment
@@ -213,22 +229,10 @@ module _ (s places : List ℕ) (step : Step) (w : clusterCheck s ≡ Whole) (n :
   pub named-is-aimed : Aimed s step
   named-is-aimed = record { vms = named-vms s (held s places) 0 step n; each = named-aimed s (held s places) 0 step n }
 
-  pub named-ready : ((v : ℕ) → getD places v 0 < nodeCount s) → Ready s places (destsFrom step)
-  named-ready b =
-      let nodes = nodes-most s w in
+  pub named-ready : Ready s places (destsFrom step)
+  named-ready =
       let vms = vms-most s w in
-      record {
-        place = λ v h. let p = b v in omega arith;
-        most = λ v h. ⊎-elim (λ x. omega arith) (λ x. omega arith) (named-goal s (held s places) 0 step v (omega arith) n);
-        leaves = λ v h x. let p = b v in ⊎-elim (λ y. omega arith) (λ y. y .1 (x ∙ sym (held-at s places v h))) (named-goal s (held s places) 0 step v (omega arith) n);
-      }
-
-  pub dests-most : (v : ℕ) → getD (destsFrom step) v 0 ≤ 64
-  dests-most v =
-      let m = nodes-most s w in
-      by-cases (decLt v 256)
-      (λ h. ⊎-elim (λ x. omega arith) (λ x. omega arith) (named-goal s (held s places) 0 step v h n))
-      (λ h. let l : length (destsFrom step) ≤ v = rw (dests-length step) (omega arith) in rw (List·getD-eq-default (destsFrom step) 0 l) (omega arith))
+      record { leaves = λ v h l x. ⊎-elim (λ y. omega arith) (λ y. y (x ∙ sym (held-at s places v h))) (named-goal s (held s places) 0 step v (omega arith) n) }
 
   far-step : far step ≡ true
   far-step = named-far s (held s places) 0 step (nodes-most s w) n
@@ -246,4 +250,4 @@ module _ (s places : List ℕ) (step : Step) (w : clusterCheck s ≡ Whole) (n :
 
   pub fitting-is : (sums : List Tally) (r : Bool) → r ≡ fitsIn (roomOf s) sums step → Loads s places (destsFrom step) sums → r ≡ fitting (roomOf s) (held s places) step
   unfolding fitsIn fitting
-  fitting-is sums r e l = e ∙ each-same sums (λ d. tallyAt (roomOf s) d (allRunning (firstMoment (roomOf s) (held s places) step))) (roomOf s) step far-step (λ d h. loads-each s places (destsFrom step) sums l d (omega arith) ∙ ap (tallyAt (roomOf s) d) running-is)
+  fitting-is sums r e l = e ∙ each-same sums (λ d. tallyAt (roomOf s) d (allRunning (firstMoment (roomOf s) (held s places) step))) (roomOf s) step far-step (λ d h. l .each d h ∙ ap (tallyAt (roomOf s) d) running-is)

@@ -1,6 +1,6 @@
 -- Laws on refusal 18: the passes over the spreads, and that they find exactly the mates that meet with every move running.
 use Prim.Native.Nat.{ℕ, zero, suc, _+_, _-_, _*_, _≤_, _<_}
-use mathlib.Core.Bool.{Bool, true, false, not, _&&_, _||_, and-false, or-true}
+use mathlib.Core.Bool.{Bool, true, false, not, _&&_, _||_, and-false, or-true, false≢true}
 use mathlib.Core.List.{List, [], _∷_, map}
 use mathlib.Core.Logic.{_⊎_, inl, inr, ⊎-elim, by-cases}
 use mathlib.Core.Path.{_≡_, refl, sym, ap, _∙_}
@@ -21,21 +21,12 @@ use Rattle.records.proofs.Laws.Bools.{and-left, and-right, and-both, bool-iff, 
 use Rattle.records.proofs.Laws.Parts.{parts-step}
 use Rattle.records.proofs.Laws.Walk.{constraints-are, walk-start, walk-cons}
 use Rattle.rules.proofs.Laws.Walks.{walk-not, walk-more, walk-done, walk-all}
-use Rattle.rules.specs.Inner.{Nodes, startMarks, markOf, goUnmet, listUnmet, spreadOk}
+use Rattle.rules.specs.Inner.{startMarks, clearOf, goUnmet, listUnmet, spreadOk}
 
 -- ---- the turns of the passes
 
-pub mark-one : (d : ℕ) → d < 64 → 1 ≡ markOf d
-mark-one d h = simp (lt-ltb d 64 h)
-
-pub mark-none : (d : ℕ) → 64 ≤ d → 0 ≡ markOf d
-mark-none d h = simp (le-ltb d 64 h)
-
-pub node-index : (l : List ℕ) (v d : ℕ) → d ≡ getD l v 0 → Nodes l → d < 65
-node-index l v d e n = let w = n .each v in omega arith
-
-pub starts-more : (marks places vms result : List ℕ) (i v p : ℕ) → v ≡ getD vms i 0 → p ≡ getD places v 0 → startMarks marks places (drop i vms) ≡ result → i < length vms →
-    startMarks (set marks p 1) places (drop (i + 1) vms) ≡ result
+pub starts-more : (marks places vms result : List ℕ) (i v p : ℕ) → v ≡ getD vms i 0 → p ≡ getD places v 0 →
+    startMarks marks places (drop i vms) ≡ result → i < length vms → startMarks (set marks p 1) places (drop (i + 1) vms) ≡ result
 unfolding startMarks
 starts-more marks places vms result i v p e f inv h = rw (add-one i, f, e) (simp (drop-cons vms i 0 h) at inv)
 
@@ -45,24 +36,40 @@ starts-end marks places vms result i inv h = rw (drop-of-length-le vms h) at inv
 
 module _ (marks dests vms : List ℕ) (result : Bool) (i v d : ℕ) (e : v ≡ getD vms i 0) (f : d ≡ getD dests v 0) (inv : goUnmet marks dests (drop i vms) ≡ result)
     (h : i < length vms) where
-  pub unmet-not : (getD marks d 0 ≡ 0 → ⊥) → false ≡ result
-  unfolding goUnmet
-  unmet-not n =
-      simp (drop-cons vms i 0 h, ne-eqb (getD marks (getD dests (getD vms i 0) 0) 0) 0 (λ q. n (ap (λ (x : ℕ). getD marks x 0) (f ∙ ap (λ (x : ℕ). getD dests x 0) e) ∙ q))) at inv
+  dest : getD dests (getD vms i 0) 0 ≡ d
+  dest = sym (f ∙ ap (λ (x : ℕ). getD dests x 0) e)
 
-  pub unmet-more : (m : ℕ) → m ≡ markOf d → getD marks d 0 ≡ 0 → goUnmet (set marks d m) dests (drop (i + 1) vms) ≡ result
+  pub unmet-not : d < 64 → (getD marks d 0 ≡ 0 → ⊥) → false ≡ result
   unfolding goUnmet
-  unmet-more m g z =
-      rw (add-one i, g, f, e)
-      (simp (drop-cons vms i 0 h, eq-eqb (getD marks (getD dests (getD vms i 0) 0) 0) 0 (sym (ap (λ (x : ℕ). getD marks x 0) (f ∙ ap (λ (x : ℕ). getD dests x 0) e)) ∙ z)) at inv)
+  unmet-not l n = simp (drop-cons vms i 0 h, dest, lt-ltb d 64 l, ne-eqb (getD marks d 0) 0 n) at inv
+
+  pub unmet-more : (next : List ℕ) → next ≡ set marks d 1 → d < 64 → getD marks d 0 ≡ 0 → goUnmet next dests (drop (i + 1) vms) ≡ result
+  unfolding goUnmet
+  unmet-more next n l z = rw (add-one i, n) (simp (drop-cons vms i 0 h, dest, lt-ltb d 64 l, eq-eqb (getD marks d 0) 0 z) at inv)
+
+  pub unmet-off : (next : List ℕ) → next ≡ marks → 64 ≤ d → goUnmet next dests (drop (i + 1) vms) ≡ result
+  unfolding goUnmet
+  unmet-off next n l = rw (add-one i, n) (simp (drop-cons vms i 0 h, dest, le-ltb d 64 l) at inv)
 
 pub unmet-end : (marks dests vms : List ℕ) (result : Bool) (i : ℕ) → goUnmet marks dests (drop i vms) ≡ result → length vms ≤ i → true ≡ result
 unfolding goUnmet
 unmet-end marks dests vms result i inv h = rw (drop-of-length-le vms h) at inv
 
-pub unmet-start : (marks places dests vms : List ℕ) → marks ≡ startMarks (replicate 65 0) places vms → goUnmet marks dests vms ≡ listUnmet places dests vms
+-- where nobody arrives at a node, nobody is met
+unmet-still : (marks dests vms : List ℕ) → clearOf (replicate 64 1) dests vms ≡ true → goUnmet marks dests vms ≡ true
+unfolding goUnmet clearOf all
+unmet-still marks dests [] e = refl
+unmet-still marks dests (v ∷ vs) e =
+    let d = getD dests v 0 in
+    let first = and-left (pick (ltb d 64) (eqb (getD (replicate 64 1) d 0) 0) true) (all (λ u. pick (ltb (getD dests u 0) 64) (eqb (getD (replicate 64 1) (getD dests u 0) 0) 0) true) vs) e in
+    let rest = and-right (pick (ltb d 64) (eqb (getD (replicate 64 1) d 0) 0) true) (all (λ u. pick (ltb (getD dests u 0) 64) (eqb (getD (replicate 64 1) (getD dests u 0) 0) 0) true) vs) e in
+    by-cases (decLt d 64)
+    (λ l. absurd (false≢true (rw (lt-ltb d 64 l, getD-replicate {A = ℕ} 64 d 1 0 l) at first)))
+    (λ l. rw (le-ltb d 64 (omega arith)) (unmet-still marks dests vs rest))
+
+pub list-still : (places dests vms : List ℕ) (r : Bool) → r ≡ clearOf (replicate 64 1) dests vms → r ≡ true → true ≡ listUnmet places dests vms
 unfolding listUnmet
-unmet-start marks places dests vms e = rw e
+list-still places dests vms r e h = sym (unmet-still (startMarks (replicate 256 0) places vms) dests vms (sym e ∙ h))
 
 -- a constraint, by its kind
 pub part-spread : (places dests vms : List ℕ) (k : Constraint) (kind : Kind) (r : Bool) → kind ≡ kindOf k → r ≡ listUnmet places dests vms → vms ≡ vmsOf k → kind ≡ Spread →

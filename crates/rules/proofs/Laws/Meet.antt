@@ -9,17 +9,18 @@ use native.Mathlib.Omega.{arith}
 use lib.ListN.{length, getD, set, replicate, length-set, length-replicate, getD-replicate}
 use lib.Seq.{getD-set-same, getD-set-other}
 use lib.Dec.{ltb, leb, eqb}
-use borrow.Author.Tests.{lt-ltb, le-ltb, eq-eqb, ne-eqb, eqb-true, eqb-false, ltb-true, ltb-false, not-true, not-false}
+use borrow.Author.Tests.{lt-ltb, le-ltb, eq-eqb, ne-eqb, eqb-true, eqb-false, ltb-true, not-true, not-false}
 use Rattle.records.specs.Base.{pick, all}
 use Rattle.records.specs.Room.{Constraint, ban, fence, spread, latency, vmsOf, has, above, rises, listOk, Room, roomOf, vmCount, nodeCount, partsOf, constraintOf, constraintOk, filled, wellFormed, clusterCheck}
 use Rattle.records.specs.Plan.{Move, Step, moveOf, noMove}
 use Rattle.records.specs.declared.faults.ClusterCheck.the-variants.{Whole}
 use Rattle.records.proofs.Laws.Bools.{and-left, and-right, and-both, bool-iff, all-at, all-and}
 use Rattle.records.proofs.Laws.Cluster.{undamaged, nodes-most, vms-most, vms-count}
+use Rattle.records.proofs.Laws.Rows.{node-on, near-on, far-off}
 use Rattle.rules.specs.Moments.{Placement, placeOf, Phase, idle, waiting, running, Cell, cell, Moment, numberOf, countsOn, phaseOf, firstMoment, allRunning}
 use Rattle.rules.specs.Orders.{spreads, some, mates, meetsMate}
 use Rattle.rules.specs.Rules.{named, unmet}
-use Rattle.rules.specs.Inner.{held, destsFrom, goalIn, busyFrom, Ready, startMarks, markOf, goUnmet, listUnmet, spreadOk}
+use Rattle.rules.specs.Inner.{held, destsFrom, goalIn, busyFrom, Ready, startMarks, goUnmet, listUnmet, spreadOk}
 use Rattle.rules.proofs.Laws.Orders.{phase-all, phase-at}
 use Rattle.rules.proofs.Laws.Loads.{counts-is}
 use Rattle.rules.proofs.Laws.Fit.{named-is-aimed, running-is, dest-phase, phase-dest}
@@ -84,7 +85,7 @@ has-below n y (x ∷ xs) a h =
     ⊎-elim (λ e. let q = eqb-true x y e in let l = ltb-true x n (and-left (ltb x n) (all (λ z. ltb z n) xs) a) in omega arith)
     (λ e. has-below n y xs (and-right (ltb x n) (all (λ z. ltb z n) xs) a) e) (either (eqb x y) (has xs y) h)
 
--- ---- arrivals: E is where each VM arrives (64: nowhere), f where it may not
+-- ---- arrivals: E is where each VM arrives, f where it may not
 
 module _ (E : ℕ → ℕ) where
   unfoldable pub arrives : (ℕ → Bool) → List ℕ → Bool
@@ -137,59 +138,67 @@ module _ (E : ℕ → ℕ) where
 
 -- ---- the passes
 
--- the marks stand where f holds; never at 64
+-- on the nodes, the marks stand where f holds
 pub record Marks (marks : List ℕ) (f : ℕ → Bool) : Type 0 where
-  pub size : length marks ≡ 65
-  pub each : (d : ℕ) → d ≤ 64 → getD marks d 0 ≡ pick (f d) 1 0
+  pub size : length marks ≡ 256
+  pub each : (d : ℕ) → d < 64 → getD marks d 0 ≡ pick (f d) 1 0
 
-pub marks-none : Marks (replicate 65 0) (λ d. false)
-marks-none = record { size = length-replicate {A = ℕ} 65 0; each = λ d h. getD-replicate {A = ℕ} 65 d 0 0 (omega arith) }
+pub marks-none : Marks (replicate 256 0) (λ d. false)
+marks-none = record { size = length-replicate {A = ℕ} 256 0; each = λ d h. getD-replicate {A = ℕ} 256 d 0 0 (omega arith) }
 
-marks-set : (marks : List ℕ) (f : ℕ → Bool) (p m : ℕ) (b : Bool) → Marks marks f → p ≤ 64 → m ≡ pick b 1 0 → (b ≡ false → f p ≡ false) →
-    Marks (set marks p m) (λ d. (eqb p d && b) || f d)
-marks-set marks f p m b k h e n = record { size = length-set marks p m ∙ k .size; each = each }
+-- a VM at p is on node d
+abbrev atNode : ℕ → ℕ → Bool
+atNode p d = eqb p d && ltb p 64
+
+never-far : (p d : ℕ) → 64 ≤ d → atNode p d ≡ false
+never-far p d h = not-both (eqb p d) (ltb p 64) (λ x y. let a = eqb-true p d x in let c = ltb-true p 64 y in omega arith)
+
+-- another mark
+marks-set : (marks : List ℕ) (f : ℕ → Bool) (p : ℕ) → Marks marks f → Marks (set marks p 1) (λ d. atNode p d || f d)
+marks-set marks f p k = record { size = length-set marks p 1 ∙ k .size; each = each }
   where
-    this : (b : Bool) → (b ≡ false → f p ≡ false) → _≡_ {A = ℕ} (pick b 1 0) (pick ((true && b) || f p) 1 0)
-    this true n = refl
-    this false n = rw (n refl)
-
-    each : (d : ℕ) → d ≤ 64 → getD (set marks p m) d 0 ≡ pick ((eqb p d && b) || f d) 1 0
+    each : (d : ℕ) → d < 64 → getD (set marks p 1) d 0 ≡ pick (atNode p d || f d) 1 0
     each d l =
         by-cases (ℕ-discrete p d)
-        (λ q. let i : p < length marks = rw (k .size) (omega arith) in
-        rw (← q) (getD-set-same marks p m 0 i ∙ e ∙ this b n ∙ ap (λ (c : Bool). pick ((c && b) || f p) 1 0) (sym (eq-eqb p p refl))))
-        (λ q. rw (ne-eqb p d q) (getD-set-other marks p d m 0 (λ x. q (sym x)) ∙ k .each d l))
+        (λ q. let h : p < 64 = rw q l in
+        rw (← q) (simp (eq-eqb p p refl, lt-ltb p 64 h) (getD-set-same marks p 1 0 (rw (k .size) (omega arith)))))
+        (λ q. rw (ne-eqb p d q) (getD-set-other marks p d 1 0 (λ x. q (sym x)) ∙ k .each d l))
 
--- the places of the VMs of a list
+-- the nodes of the VMs of a list
 startsAt : List ℕ → List ℕ → ℕ → Bool
 startsAt places [] d = false
-startsAt places (w ∷ ws) d = eqb (getD places w 0) d || startsAt places ws d
+startsAt places (w ∷ ws) d = atNode (getD places w 0) d || startsAt places ws d
 
-starts-some : (places vs : List ℕ) (d w : ℕ) → startsAt places vs d ≡ false → has vs w ≡ true → getD places w 0 ≡ d → ⊥
+starts-some : (places vs : List ℕ) (d w : ℕ) → startsAt places vs d ≡ false → has vs w ≡ true → getD places w 0 ≡ d → d < 64 → ⊥
 unfolding startsAt has
-starts-some places [] d w e h q = never (sym h)
-starts-some places (x ∷ xs) d w e h q =
-    let n = neither (eqb (getD places x 0) d) (startsAt places xs d) e in
-    ⊎-elim (λ p. eqb-false (getD places x 0) d (n .0) (ap (λ (k : ℕ). getD places k 0) (eqb-true x w p) ∙ q)) (λ p. starts-some places xs d w (n .1) p q) (either (eqb x w) (has xs w) h)
+starts-some places [] d w e h q l = never (sym h)
+starts-some places (x ∷ xs) d w e h q l =
+    let n = neither (atNode (getD places x 0) d) (startsAt places xs d) e in
+    ⊎-elim (λ p. let g : getD places x 0 ≡ d = ap (λ (k : ℕ). getD places k 0) (eqb-true x w p) ∙ q in
+    never (sym (and-both (eq-eqb (getD places x 0) d g) (rw g (lt-ltb d 64 l))) ∙ n .0))
+    (λ p. starts-some places xs d w (n .1) p q l) (either (eqb x w) (has xs w) h)
 
-starts-none : (places vs : List ℕ) (d : ℕ) → ((w : ℕ) → has vs w ≡ true → getD places w 0 ≡ d → ⊥) → startsAt places vs d ≡ false
+starts-none : (places vs : List ℕ) (d : ℕ) → ((w : ℕ) → has vs w ≡ true → getD places w 0 ≡ d → d < 64 → ⊥) → startsAt places vs d ≡ false
 unfolding startsAt has
 starts-none places [] d n = refl
 starts-none places (x ∷ xs) d n =
-    rw (ne-eqb (getD places x 0) d (n x (simp (eq-eqb x x refl))), starts-none places xs d (λ w h. n w (simp (h, or-true))))
+    rw (
+      not-both (eqb (getD places x 0) d) (ltb (getD places x 0) 64)
+          (λ a b. let q = eqb-true (getD places x 0) d a in n x (simp (eq-eqb x x refl)) q (rw q at (ltb-true (getD places x 0) 64 b))),
+      starts-none places xs d (λ w h. n w (simp (h, or-true))),
+    )
 
-or-turned : (a b c : Bool) → (b || ((a && true) || c)) ≡ ((a || b) || c)
+or-turned : (a b c : Bool) → (b || (a || c)) ≡ ((a || b) || c)
 or-turned true b c = or-true b
 or-turned false b c = refl
 
-starts-marks : (marks places vs : List ℕ) (f : ℕ → Bool) → Marks marks f → ((w : ℕ) → has vs w ≡ true → getD places w 0 ≤ 64) →
-    Marks (startMarks marks places vs) (λ d. startsAt places vs d || f d)
-unfolding startMarks startsAt has
-starts-marks marks places [] f k b = k
-starts-marks marks places (x ∷ xs) f k b =
-    let w = starts-marks (set marks (getD places x 0) 1) places xs (λ d. (eqb (getD places x 0) d && true) || f d)
-    (marks-set marks f (getD places x 0) 1 true k (b x (simp (eq-eqb x x refl))) refl (λ q. never q)) (λ v h. b v (simp (h, or-true))) in
-    record { size = w .size; each = λ d l. w .each d l ∙ ap (λ (c : Bool). pick c 1 0) (or-turned (eqb (getD places x 0) d) (startsAt places xs d) (f d)) }
+starts-marks : (marks places vs : List ℕ) (f : ℕ → Bool) → Marks marks f → Marks (startMarks marks places vs) (λ d. startsAt places vs d || f d)
+unfolding startMarks startsAt
+starts-marks marks places [] f k = k
+starts-marks marks places (x ∷ xs) f k =
+    let p = getD places x 0 in
+    let w = starts-marks (set marks p 1) places xs (λ d. atNode p d || f d) (marks-set marks f p k) in
+    record { size = w .size; each = λ d l. w .each d l ∙ ap (λ (c : Bool). pick c 1 0) (or-turned (atNode p d) (startsAt places xs d) (f d)) }
 
 mark-flag : (b : Bool) → eqb (pick b 1 0) 0 ≡ not b
 mark-flag true = refl
@@ -199,48 +208,54 @@ pick-and : (a b : Bool) → pick a b false ≡ (a && b)
 pick-and true b = refl
 pick-and false b = refl
 
-pub go-arrives : (marks dests vs : List ℕ) (f : ℕ → Bool) → Marks marks f → f 64 ≡ false → ((w : ℕ) → has vs w ≡ true → getD dests w 0 ≤ 64) →
-    goUnmet marks dests vs ≡ arrives (λ v. getD dests v 0) f vs
-unfolding goUnmet arrives has
-go-arrives marks dests [] f k z b = refl
-go-arrives marks dests (x ∷ xs) f k z b =
-    let l = b x (simp (eq-eqb x x refl)) in
-    rw (
-      k .each (getD dests x 0) l,
-      mark-flag (f (getD dests x 0)),
-      go-arrives (set marks (getD dests x 0) (markOf (getD dests x 0))) dests xs (λ d. (eqb (getD dests x 0) d && ltb (getD dests x 0) 64) || f d)
-          (marks-set marks f (getD dests x 0) (markOf (getD dests x 0)) (ltb (getD dests x 0) 64) k l refl (at-end l))
-          (last (getD dests x 0)) (λ v h. b v (simp (h, or-true))),
-    )
-    (pick-and (not (f (getD dests x 0))) _)
+pub go-arrives : (marks dests vs : List ℕ) (f : ℕ → Bool) → Marks marks f → ((d : ℕ) → 64 ≤ d → f d ≡ false) → goUnmet marks dests vs ≡ arrives (λ v. getD dests v 0) f vs
+unfolding goUnmet arrives
+go-arrives marks dests [] f k z = refl
+go-arrives marks dests (x ∷ xs) f k z =
+    let e = getD dests x 0 in
+    let far : (d : ℕ) → 64 ≤ d → (atNode e d || f d) ≡ false = λ d h. rw (never-far e d h, z d h) in
+    by-cases (decLt e 64)
+    (λ l. ap (λ (b : Bool). pick b (pick (eqb (getD marks e 0) 0) (goUnmet (set marks e 1) dests xs) false) (goUnmet marks dests xs)) (lt-ltb e 64 l) ∙
+    rw (k .each e l, mark-flag (f e), go-arrives (set marks e 1) dests xs (λ d. atNode e d || f d) (marks-set marks f e k) far) (pick-and (not (f e)) _))
+    (λ l. ap (λ (b : Bool). pick b (pick (eqb (getD marks e 0) 0) (goUnmet (set marks e 1) dests xs) false) (goUnmet marks dests xs)) (le-ltb e 64 (omega arith)) ∙
+    rw (z e (omega arith)) (go-arrives marks dests xs (λ d. atNode e d || f d) (idle e (omega arith)) far))
   where
-    at-end : getD dests x 0 ≤ 64 → ltb (getD dests x 0) 64 ≡ false → f (getD dests x 0) ≡ false
-    at-end l e = let h = ltb-false (getD dests x 0) 64 e in let q : getD dests x 0 ≡ 64 = omega arith in rw q z
-
-    last : (d : ℕ) → ((eqb d 64 && ltb d 64) || f 64) ≡ false
-    last d = rw (z, not-both (eqb d 64) (ltb d 64) (λ p q. let a = eqb-true d 64 p in let c = ltb-true d 64 q in omega arith))
+    -- no node, no mark
+    idle : (e : ℕ) → 64 ≤ e → Marks marks (λ d. atNode e d || f d)
+    idle e h = record {
+      size = k .size;
+      each = λ d l. k .each d l ∙ ap (λ (c : Bool). pick (c || f d) 1 0) (sym (ap (λ (b : Bool). eqb e d && b) (le-ltb e 64 h) ∙ and-false (eqb e d)));
+    }
 
 -- ---- one spread: its VMs arrive apart, and none where one starts
 
-module _ (places dests vs : List ℕ) (b : (w : ℕ) → has vs w ≡ true → getD places w 0 < 64) (m : (w : ℕ) → has vs w ≡ true → getD dests w 0 ≤ 64) where
-  list-arrives : listUnmet places dests vs ≡ arrives (λ v. getD dests v 0) (λ d. startsAt places vs d || false) vs
-  unfolding listUnmet
-  list-arrives =
-      go-arrives (startMarks (replicate 65 0) places vs) dests vs (λ d. startsAt places vs d || false)
-      (starts-marks (replicate 65 0) places vs (λ d. false) marks-none (λ w h. let l = b w h in omega arith))
-      (rw (starts-none places vs 64 (λ w h q. let l = b w h in omega arith))) m
+module _ (places dests vs : List ℕ) where
+  dest-of : ℕ → ℕ
+  dest-of v = getD dests v 0
 
-  list-free : listUnmet places dests vs ≡ true → (v w : ℕ) → has vs v ≡ true → has vs w ≡ true → getD places w 0 ≡ getD dests v 0 → ⊥
-  list-free e v w h k q =
-      starts-some places vs (getD dests v 0) w (neither (startsAt places vs (getD dests v 0)) false (arrives-free (λ v. getD dests v 0) (λ d. startsAt places vs d || false) vs v (sym list-arrives ∙ e) h) .0) k q
+  list-arrives : listUnmet places dests vs ≡ arrives dest-of (λ d. startsAt places vs d || false) vs
+  unfolding listUnmet dest-of
+  list-arrives =
+      go-arrives (startMarks (replicate 256 0) places vs) dests vs (λ d. startsAt places vs d || false)
+      (starts-marks (replicate 256 0) places vs (λ d. false) marks-none) (λ d h. rw (starts-none places vs d (λ w k q l. omega arith)))
+
+  list-free : listUnmet places dests vs ≡ true → (v w : ℕ) → has vs v ≡ true → has vs w ≡ true → getD places w 0 ≡ getD dests v 0 → getD dests v 0 < 64 → ⊥
+  unfolding dest-of
+  list-free e v w h k q l =
+      starts-some places vs (getD dests v 0) w
+      (neither (startsAt places vs (getD dests v 0)) false (arrives-free dest-of (λ d. startsAt places vs d || false) vs v (sym list-arrives ∙ e) h) .0) k q l
 
   list-apart : listUnmet places dests vs ≡ true → (v w : ℕ) → has vs v ≡ true → has vs w ≡ true → (v ≡ w → ⊥) → getD dests v 0 ≡ getD dests w 0 → getD dests v 0 < 64 → ⊥
-  list-apart e = λ v w h k n q l. arrives-apart (λ v. getD dests v 0) (λ d. startsAt places vs d || false) vs v w (sym list-arrives ∙ e) h k n q l
+  unfolding dest-of
+  list-apart e = λ v w h k n q l. arrives-apart dest-of (λ d. startsAt places vs d || false) vs v w (sym list-arrives ∙ e) h k n q l
 
-  list-all : rises vs ≡ true → ((v w : ℕ) → has vs v ≡ true → has vs w ≡ true → getD places w 0 ≡ getD dests v 0 → ⊥) →
+  list-all : rises vs ≡ true → ((v w : ℕ) → has vs v ≡ true → has vs w ≡ true → getD places w 0 ≡ getD dests v 0 → getD dests v 0 < 64 → ⊥) →
       ((v w : ℕ) → has vs v ≡ true → has vs w ≡ true → (v ≡ w → ⊥) → getD dests v 0 ≡ getD dests w 0 → getD dests v 0 < 64 → ⊥) → listUnmet places dests vs ≡ true
+  unfolding dest-of
   list-all r x y =
-      list-arrives ∙ arrives-all (λ v. getD dests v 0) (λ d. startsAt places vs d || false) vs r (λ v h. rw (starts-none places vs (getD dests v 0) (λ w k q. x v w h k q))) y
+      list-arrives ∙ arrives-all dest-of (λ d. startsAt places vs d || false) vs r
+      (λ v h. rw (starts-none places vs (getD dests v 0) (λ w k q l. x v w h k q l)))
+      y
 
 -- ---- the cells of the moment, one by one
 
@@ -296,11 +311,9 @@ module _ (s places : List ℕ) (step : Step) (w : clusterCheck s ≡ Whole) (n :
   spread-at (spread vs) c o v u e m l =
       let hv = and-left (has vs v) (has vs u) e in
       let hu = and-right (has vs v) (has vs u) e in
-      let b : (x : ℕ) → has vs x ≡ true → getD places x 0 < 64 = λ x h. r .place x (list-in vs c x h) in
-      let t : (x : ℕ) → has vs x ≡ true → getD (destsFrom step) x 0 ≤ 64 = λ x h. r .most x (list-in vs c x h) in
       rw (
-        ne-eqb (getD places u 0) (getD (destsFrom step) v 0) (list-free places (destsFrom step) vs b t o v u hv hu),
-        ne-eqb (getD (destsFrom step) u 0) (getD (destsFrom step) v 0) (λ q. list-apart places (destsFrom step) vs b t o v u hv hu m (sym q) l),
+        ne-eqb (getD places u 0) (getD (destsFrom step) v 0) (λ q. list-free places (destsFrom step) vs o v u hv hu q l),
+        ne-eqb (getD (destsFrom step) u 0) (getD (destsFrom step) v 0) (λ q. list-apart places (destsFrom step) vs o v u hv hu m (sym q) l),
       )
 
   busy : Moment
@@ -333,10 +346,12 @@ module _ (s places : List ℕ) (step : Step) (w : clusterCheck s ≡ Whole) (n :
       let k : moveOf step i .vm < vmCount s = rw (vms-count s) at (a .2) in
       let e = phase-dest s places step w n (moveOf step i .vm) (moveOf step i .to) (omega arith) (a .0) in
       let t = named-is-aimed s places step w n .each i h in
-      let c = nodes-most s w in
-      busy-none (λ c. mates (roomOf s) (moveOf step i .vm) (numberOf c) && countsOn (moveOf step i .to) c) places (destsFrom step) 0 (vmCount s)
+      by-cases (decLt (moveOf step i .to) 64)
+      (λ l. rw (near-on (nodeCount s) (moveOf step i .to) (nodes-most s w) t l)
+      (busy-none (λ c. mates (roomOf s) (moveOf step i .vm) (numberOf c) && countsOn (moveOf step i .to) c) places (destsFrom step) 0 (vmCount s)
       (λ u x y. not-both (mates (roomOf s) (moveOf step i .vm) u) (countsOn (moveOf step i .to) (cell u (getD places u 0) (goalIn (destsFrom step) u)))
-      (λ p q. apart-from o (moveOf step i .vm) u (moveOf step i .to) (omega arith) e p q))
+      (λ p q. apart-from o (moveOf step i .vm) u (moveOf step i .to) l e p q))))
+      (λ l. rw (far-off (nodeCount s) (moveOf step i .to) (nodes-most s w) t (omega arith)))
 
   -- no moved VM meets a mate: each spread passes
   module _ (o : all (λ move. not (meetsMate (roomOf s) busy (move .vm) (move .to))) step ≡ true) where
@@ -345,7 +360,8 @@ module _ (s places : List ℕ) (step : Step) (w : clusterCheck s ≡ Whole) (n :
     clear v u hv hu m l =
         let c = vms-most s w in
         let ph = dest-phase s places step w n v (omega arith) l in
-        let q = not-true (meetsMate (roomOf s) busy v (getD (destsFrom step) v 0)) (phase-all (λ u d. not (meetsMate (roomOf s) busy u d)) step v (getD (destsFrom step) v 0) o ph) in
+        let g = not-true (meetsMate (roomOf s) busy v (getD (destsFrom step) v 0)) (phase-all (λ u d. not (meetsMate (roomOf s) busy u d)) step v (getD (destsFrom step) v 0) o ph) in
+        let q : some (λ c. mates (roomOf s) v (numberOf c) && countsOn (getD (destsFrom step) v 0) c) (busyFrom places (destsFrom step) 0 (vmCount s)) ≡ false = rw (node-on 64 (getD (destsFrom step) v 0) (omega arith) l) at g in
         let b = busy-some (λ c. mates (roomOf s) v (numberOf c) && countsOn (getD (destsFrom step) v 0) c) places (destsFrom step) 0 (vmCount s) u q (omega arith) (omega arith) in
         sym (counts (getD (destsFrom step) v 0) u l) ∙ (simp m at b)
 
@@ -363,11 +379,10 @@ module _ (s places : List ℕ) (step : Step) (w : clusterCheck s ≡ Whole) (n :
     back-at i d (latency vs groups) h e c = refl
     back-at i d (spread vs) h e c =
         let inside : (x : ℕ) → has vs x ≡ true → x < vmCount s = list-in vs c in
-        list-all places (destsFrom step) vs (λ x a. r .place x (inside x a)) (λ x a. r .most x (inside x a)) (and-left (rises vs) _ c)
-        (λ v u a b q. by-cases (ℕ-discrete v u)
-        (λ y. r .leaves u (inside u b) (sym (q ∙ ap (λ (x : ℕ). getD (destsFrom step) x 0) y)))
-        (λ y. let p = r .place u (inside u b) in
-        let z = clear v u (inside v a) (inside u b) (spread-mates i d vs h e v u a b y) (rw (← q) p) in
+        list-all places (destsFrom step) vs (and-left (rises vs) _ c)
+        (λ v u a b q l. by-cases (ℕ-discrete v u)
+        (λ y. r .leaves v (inside v a) l (sym q ∙ ap (λ (x : ℕ). getD places x 0) (sym y)))
+        (λ y. let z = clear v u (inside v a) (inside u b) (spread-mates i d vs h e v u a b y) l in
         eqb-false (getD places u 0) (getD (destsFrom step) v 0) (neither (eqb (getD places u 0) (getD (destsFrom step) v 0)) (eqb (getD (destsFrom step) u 0) (getD (destsFrom step) v 0)) z .0) q))
         (λ v u a b y q l. let z = clear v u (inside v a) (inside u b) (spread-mates i d vs h e v u a b y) l in
         eqb-false (getD (destsFrom step) u 0) (getD (destsFrom step) v 0) (neither (eqb (getD places u 0) (getD (destsFrom step) v 0)) (eqb (getD (destsFrom step) u 0) (getD (destsFrom step) v 0)) z .1) (sym q))

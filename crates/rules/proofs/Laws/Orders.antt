@@ -11,12 +11,12 @@ use lib.Seq.{getD-set-same, getD-set-other, ext-getD}
 use lib.Dec.{leb, ltb, eqb}
 use borrow.Author.Tests.{leb-true, ltb-true, eqb-true, eqb-false, not-true, not-false, le-leb, lt-ltb, eq-eqb, ne-eqb}
 use Rattle.records.specs.Base.{pick, all}
-use Rattle.records.specs.Room.{Node, Room, vmOf, nodeOf}
+use Rattle.records.specs.Room.{Node, Room, vmOf, nodeOf, onNode}
 use Rattle.records.specs.Plan.{Move, Step, moveOf}
 use Rattle.records.proofs.Laws.Bools.{and-left, and-right, and-both, all-head, all-tail}
-use Rattle.rules.specs.Moments.{Placement, placeOf, after, within, withVm, Phase, idle, waiting, running, ended, Cell, cell, Moment, numberOf, countsOn, tallyAt, phaseOf, cellsFrom, firstMoment, begun, allRunning, rests, settled, leftAt, placesLeft}
+use Rattle.rules.specs.Moments.{Placement, placeOf, after, within, bears, withVm, Phase, idle, waiting, running, ended, Cell, cell, Moment, numberOf, countsOn, tallyAt, phaseOf, cellsFrom, firstMoment, begun, allRunning, rests, settled, leftAt, placesLeft}
 use Rattle.rules.specs.Orders.{Act, begin, finish, Event, begins, ends, later, Order, done, next, fits, some, mates, meetsMate, EachBegin, SomeBegin}
-use Rattle.rules.specs.Rules.{allowed, named, permitted, fitting, unmet}
+use Rattle.rules.specs.Rules.{allowed, aims, named, permitted, fitting, unmet}
 use Rattle.rules.specs.Promises.{SomeOrder}
 
 -- from two constructors that are equal (`cc` finds that 0 is 1) anything follows
@@ -36,10 +36,10 @@ module _ (room : Room) (places : Placement) (least : ℕ) (move : Move) (moves :
   unfolding named
   vm-ok = and-left (leb least (move .vm) && ltb (move .vm) (length (room .vms))) _ e
 
-  to-ok : (ltb (move .to) (length (room .nodes)) && not (eqb (move .to) (placeOf places (move .vm)))) ≡ true
+  to-ok : (aims room (move .vm) (move .to) && not (eqb (move .to) (placeOf places (move .vm)))) ≡ true
   unfolding named
   to-ok =
-      and-left (ltb (move .to) (length (room .nodes)) && not (eqb (move .to) (placeOf places (move .vm)))) _
+      and-left (aims room (move .vm) (move .to) && not (eqb (move .to) (placeOf places (move .vm)))) _
       (and-right (leb least (move .vm) && ltb (move .vm) (length (room .vms))) _ e)
 
   pub named-least : least ≤ move .vm
@@ -48,24 +48,24 @@ module _ (room : Room) (places : Placement) (least : ℕ) (move : Move) (moves :
   pub named-vm : move .vm < length (room .vms)
   named-vm = ltb-true (move .vm) (length (room .vms)) (and-right (leb least (move .vm)) _ vm-ok)
 
-  pub named-node : move .to < length (room .nodes)
-  named-node = ltb-true (move .to) (length (room .nodes)) (and-left (ltb (move .to) (length (room .nodes))) _ to-ok)
+  pub named-sends : aims room (move .vm) (move .to) ≡ true
+  named-sends = and-left (aims room (move .vm) (move .to)) _ to-ok
 
   pub named-off : not (eqb (move .to) (placeOf places (move .vm))) ≡ true
-  named-off = and-right (ltb (move .to) (length (room .nodes))) _ to-ok
+  named-off = and-right (aims room (move .vm) (move .to)) _ to-ok
 
   pub named-rest : named room places (suc (move .vm)) moves ≡ true
   unfolding named
   named-rest =
-      and-right (ltb (move .to) (length (room .nodes)) && not (eqb (move .to) (placeOf places (move .vm)))) _
+      and-right (aims room (move .vm) (move .to) && not (eqb (move .to) (placeOf places (move .vm)))) _
       (and-right (leb least (move .vm) && ltb (move .vm) (length (room .vms))) _ e)
 
 pub named-cons : (room : Room) (places : Placement) (least : ℕ) (move : Move) (moves : Step) → least ≤ move .vm → move .vm < length (room .vms) →
-    move .to < length (room .nodes) → not (eqb (move .to) (placeOf places (move .vm))) ≡ true → named room places (suc (move .vm)) moves ≡ true →
+    aims room (move .vm) (move .to) ≡ true → not (eqb (move .to) (placeOf places (move .vm))) ≡ true → named room places (suc (move .vm)) moves ≡ true →
     named room places least (move ∷ moves) ≡ true
 unfolding named
 named-cons room places least move moves l v t o r =
-    and-both (and-both (le-leb least (move .vm) l) (lt-ltb (move .vm) (length (room .vms)) v)) (and-both (and-both (lt-ltb (move .to) (length (room .nodes)) t) o) r)
+    and-both (and-both (le-leb least (move .vm) l) (lt-ltb (move .vm) (length (room .vms)) v)) (and-both (and-both t o) r)
 
 -- ---- loads: one number of each VM, summed where it counts
 
@@ -137,7 +137,12 @@ under-some {d} q (both {v = v} {p = p} {q = r} {x = x} {y = y} g u) e =
 
 pub meets-under : {d : ℕ} {cs bs : Moment} (room : Room) (v : ℕ) → Under d cs bs → meetsMate room cs v d ≡ true → meetsMate room bs v d ≡ true
 unfolding meetsMate
-meets-under room v u e = under-some (mates room v) u e
+meets-under {d} {cs} {bs} room v u e = go (onNode d) e
+  where
+    go : (b : Bool) → pick b (some (λ c. mates room v (numberOf c) && countsOn d c) cs) false ≡ true →
+        pick b (some (λ c. mates room v (numberOf c) && countsOn d c) bs) false ≡ true
+    go true h = under-some (mates room v) u h
+    go false h = h
 
 -- ---- a moment onward from another: each VM's move as it was, or further
 
@@ -276,11 +281,11 @@ begin-tally {cs} {ds} {v} {d} room e t i = record {
   cpu = (ap (λ (n : ℕ). n + cpuIn room v) (cpu-load room d cs) ∙ begin-load (cpuIn room) e t ∙ sym (cpu-load room d ds)) i;
 }
 
--- a VM fits when it begins if the tally behind its begin is within the node
+-- a VM fits when it begins if its destination bears the tally behind its begin
 pub begin-fits : {cs ds : Moment} {v d : ℕ} (room : Room) → Event cs (begin v d) ds → all travels cs ≡ true →
-    fits room cs v d ≡ within (nodeOf room d) (tallyAt room d ds)
+    fits room cs v d ≡ bears room d (tallyAt room d ds)
 unfolding fits
-begin-fits {d = d} room e t = ap (within (nodeOf room d)) (begin-tally room e t)
+begin-fits {d = d} room e t = ap (bears room d) (begin-tally room e t)
 
 pub not-own-mate : (room : Room) (v : ℕ) → mates room v v ≡ false
 unfolding mates
@@ -288,7 +293,7 @@ not-own-mate room v = simp (eq-eqb v v refl)
 
 pub begin-meets : {cs ds : Moment} {v d : ℕ} (room : Room) → Event cs (begin v d) ds → meetsMate room cs v d ≡ meetsMate room ds v d
 unfolding meetsMate
-begin-meets {v = v} room e = begin-some (mates room v) (not-own-mate room v) e
+begin-meets {v = v} {d = d} room e = ap (λ (b : Bool). pick (onNode d) b false) (begin-some (mates room v) (not-own-mate room v) e)
 
 pub within-under : {d : ℕ} {cs bs : Moment} (room : Room) (node : Node) → Under d cs bs →
     within node (tallyAt room d bs) ≡ true → within node (tallyAt room d cs) ≡ true
@@ -299,6 +304,14 @@ within-under {d} {cs} {bs} room node u e =
     let m' : tallyAt room d cs .memory ≤ node .memory = omega (arith, memory-load room d cs, memory-load room d bs, under-load (memoryIn room) u) in
     let c' : tallyAt room d cs .cpu ≤ node .cpu = omega (arith, cpu-load room d cs, cpu-load room d bs, under-load (cpuIn room) u) in
     and-both (le-leb (tallyAt room d cs .memory) (node .memory) m') (le-leb (tallyAt room d cs .cpu) (node .cpu) c')
+
+pub bears-under : {d : ℕ} {cs bs : Moment} (room : Room) → Under d cs bs → bears room d (tallyAt room d bs) ≡ true → bears room d (tallyAt room d cs) ≡ true
+unfolding bears
+bears-under {d} {cs} {bs} room u e = go (onNode d) e
+  where
+    go : (b : Bool) → pick b (within (nodeOf room d) (tallyAt room d bs)) true ≡ true → pick b (within (nodeOf room d) (tallyAt room d cs)) true ≡ true
+    go true h = within-under room (nodeOf room d) u h
+    go false h = refl
 
 -- ---- a begin of an order is a move of the step
 
@@ -393,8 +406,8 @@ module _ (room : Room) (places : Placement) (step : Step) where
       fit : (cs ds : Moment) (v d : ℕ) → Onward first cs → Event cs (begin v d) ds → fits room cs v d ≡ true
       fit cs ds v d w e =
           begin-fits room e (travels-onward w (first-travels n)) ∙
-          within-under room (nodeOf room d) (under-busy d (onward-event w e))
-          (step-begin (λ v d. within (nodeOf room d) (tallyAt room d (allRunning first))) p w e)
+          bears-under room (under-busy d (onward-event w e))
+          (step-begin (λ v d. bears room d (tallyAt room d (allRunning first))) p w e)
 
   -- 18: in every order no VM meets a mate when it begins
   pub begins-apart : unmet room places step ≡ true → {end : Moment} (o : Order (firstMoment room places step) end) →
@@ -562,7 +575,7 @@ module _ (room : Room) (places : Placement) (step : Step) where
 
   -- its begin fits, or meets a mate, as with every move running
   pub last-fits : named room places 0 step ≡ true → (v d : ℕ) (l : Last (firstMoment room places step) v d) →
-      fits room (l .before) v d ≡ within (nodeOf room d) (tallyAt room d (allRunning (firstMoment room places step)))
+      fits room (l .before) v d ≡ bears room d (tallyAt room d (allRunning (firstMoment room places step)))
   last-fits n v d l =
       begin-fits room (l .event)
       (travels-onward (onward-order (onward-self (firstMoment room places step)) (l .order)) (first-travels room places step n))
@@ -581,7 +594,7 @@ module _ (room : Room) (places : Placement) (step : Step) where
     pub some-misfit : fitting room places step ≡ false → SomeOrder room places step (λ cs v d. fits room cs v d ≡ false)
     unfolding fitting
     some-misfit p =
-        let f = failing room places 0 step (λ v d. within (nodeOf room d) (tallyAt room d (allRunning (firstMoment room places step)))) n p in
+        let f = failing room places 0 step (λ v d. bears room d (tallyAt room d (allRunning (firstMoment room places step)))) n p in
         let l = last-begin (f .vm) (f .to) (f .waits) (f .there) in
         some-last (λ cs v d. fits room cs v d ≡ false) (f .vm) (f .to) l (last-fits n (f .vm) (f .to) l ∙ f .fails)
 

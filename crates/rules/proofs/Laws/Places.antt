@@ -1,5 +1,6 @@
 -- Laws on placements in arrays: filling one from the record, moving, destinations.
 use Prim.Native.Nat.{ℕ, suc, _+_, _-_, _≤_, _<_}
+use mathlib.Core.Bool.{true}
 use mathlib.Core.List.{List, [], _∷_, _++_}
 use mathlib.Core.Logic.{by-cases}
 use mathlib.Core.Path.{_≡_, refl, sym, ap, _∙_}
@@ -8,10 +9,11 @@ use native.Mathlib.Numerals.{add-one}
 use native.Mathlib.Omega.{arith}
 use lib.ListN.{length, getD, set, take, drop, replicate, length-set, length-map, length-replicate, getD-replicate, drop-of-length-le, List·getD-map, List·getD-append, List·getD-eq-default, take-append-drop}
 use lib.Seq.{take-suc, take-suc-set, drop-cons, drop-drop, drop-set-lt, take-all, take-at, getD-append-add}
-use Rattle.records.specs.Room.{Room, noVm, vmOf, roomOf, nodeCount, vmCount, clusterCheck}
+use Rattle.records.specs.Room.{Room, noVm, vmOf, roomOf, nodeCount, vmCount, placeOk, clusterCheck}
 use Rattle.records.specs.Plan.{noMove, moveOf, moveCount, stepAt}
 use Rattle.records.specs.declared.faults.ClusterCheck.the-variants.{Whole}
-use Rattle.records.proofs.Laws.Cluster.{vms-count, nodes-least, vm-current-below, vm-target-below}
+use Rattle.records.proofs.Laws.Cluster.{vms-count, nodes-least, vm-current-place, vm-target-place}
+use Rattle.records.proofs.Laws.Rows.{place-node}
 use Rattle.records.proofs.Laws.Steps.{step-length}
 use Rattle.rules.specs.Moments.{Placement, currentOf, targetOf, after}
 use Rattle.rules.specs.Inner.{held, Placed, Holds, arrayOf, Filling, destsFrom}
@@ -47,14 +49,14 @@ filling-end places placement v f e =
 
 -- an array so filled holds the placement
 module _ (s places : List ℕ) (placement : Placement) (q : places ≡ arrayOf placement) (w : clusterCheck s ≡ Whole) (l : length placement ≡ vmCount s)
-    (b : (v : ℕ) → v < vmCount s → getD placement v 0 < nodeCount s) where
-  array-below : (v : ℕ) → getD (arrayOf placement) v 0 < nodeCount s
+    (b : (v : ℕ) → v < vmCount s → placeOk true (nodeCount s) (getD placement v 0) ≡ true) where
+  array-places : (v : ℕ) → placeOk true (nodeCount s) (getD (arrayOf placement) v 0) ≡ true
   unfolding arrayOf
-  array-below v =
+  array-places v =
       by-cases (decLt v (length placement)) (λ h. rw (List·getD-append placement (replicate (256 - length placement) 0) 0 v h) (b v (omega arith)))
       (λ h. let k : v ≡ length placement + (v - length placement) = omega arith in
       rw (ap (λ (i : ℕ). getD (placement ++ replicate (256 - length placement) 0) i 0) k ∙ getD-append-add placement (replicate (256 - length placement) 0) (v - length placement) 0 ∙
-      zeros (256 - length placement) (v - length placement)) (nodes-least s w))
+      zeros (256 - length placement) (v - length placement)) (sym (place-node true (nodeCount s) 0 (nodes-least s w))))
     where
       zeros : (n u : ℕ) → _≡_ {A = ℕ} (getD (replicate n 0) u 0) 0
       zeros n u =
@@ -65,7 +67,7 @@ module _ (s places : List ℕ) (placement : Placement) (q : places ≡ arrayOf p
   unfolding held arrayOf
   array-holds = record {
     is = ap (take (vmCount s)) q ∙ take-at placement (replicate (256 - length placement) 0) (vmCount s) l;
-    placed = record { below = λ v. rw q (array-below v) };
+    placed = record { each = λ v. rw q (array-places v) };
   }
 
 -- the two placements of the record
@@ -105,10 +107,10 @@ module _ (s places : List ℕ) (v n : ℕ) (q : n ≡ vmCount s) where
 
 module _ (s places : List ℕ) where
   pub current-holds : places ≡ arrayOf (currentOf (roomOf s)) → clusterCheck s ≡ Whole → Holds s places (currentOf (roomOf s))
-  current-holds q w = array-holds s places (currentOf (roomOf s)) q w (current-count s) (λ v h. rw (current-at (roomOf s) v) (vm-current-below s v w h))
+  current-holds q w = array-holds s places (currentOf (roomOf s)) q w (current-count s) (λ v h. rw (current-at (roomOf s) v) (vm-current-place s v w h))
 
   pub target-holds : places ≡ arrayOf (targetOf (roomOf s)) → clusterCheck s ≡ Whole → Holds s places (targetOf (roomOf s))
-  target-holds q w = array-holds s places (targetOf (roomOf s)) q w (target-count s) (λ v h. rw (target-at (roomOf s) v) (vm-target-below s v w h))
+  target-holds q w = array-holds s places (targetOf (roomOf s)) q w (target-count s) (λ v h. rw (target-at (roomOf s) v) (vm-target-place s v w h))
 
   pub target-placed : places ≡ arrayOf (targetOf (roomOf s)) → clusterCheck s ≡ Whole → Placed s places
   target-placed q w = target-holds q w .placed

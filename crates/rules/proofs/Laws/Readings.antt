@@ -5,13 +5,16 @@ use mathlib.Core.List.{[], _∷_}
 use mathlib.Core.Path.{_≡_, refl}
 use lib.ListN.{length}
 use lib.Dec.{eqb}
-use Rattle.records.specs.Base.{pick, all}
-use Rattle.records.specs.Room.{Room, Vm, Node, spread, has, vmsOf, nodeOf, vmOf}
+use Rattle.records.specs.Base.{pick, all, sumOf}
+use Rattle.records.specs.Room.{Room, Vm, Node, fence, spread, has, vmsOf, nodeOf, vmOf, nowhere, onNode}
 use Rattle.records.specs.Plan.{Step}
 use Rattle.records.specs.declared.plan.Source.the-variants.{Unnamed}
-use Rattle.rules.specs.Moments.{Placement, currentOf, within, withVm, emptyTally, idle, waiting, running, ended, Cell, cell, Moment, numberOf, countsOn, tallyAt, phaseOf, cellsFrom, firstMoment, begun, allRunning}
+use Rattle.rules.specs.Moments.{Placement, currentOf, targetOf, after, within, bears, withVm, emptyTally, idle, waiting, running, ended, Cell, cell, Moment, numberOf, countsOn, tallyAt, phaseOf, cellsFrom, firstMoment, begun, allRunning}
 use Rattle.rules.specs.Orders.{fits, spreads, some, mates, meetsMate}
-use Rattle.rules.specs.Rules.{from, keepsFrom, allowed, named, permitted, fitting, unmet, soundStep}
+use Rattle.rules.specs.Rules.{from, keepsFrom, allowed, aims, named, isPlace, sourced, permitted, fitting, unmet, stepCheck, soundStep}
+use Rattle.rules.specs.Cost.{memoryOf, stepCost, costFrom, costOf}
+use Rattle.rules.specs.declared.faults.StepFault.the-variants.{Misnamed, Misfit}
+use Rattle.rules.specs.declared.faults.StepCheck.the-variants.{Clear, Faulty}
 use Rattle.rules.specs.declared.tally.Tally.{Tally}
 use Rattle.rules.proofs.Laws.Orders.{overAt, allOver}
 
@@ -41,6 +44,27 @@ overfull = record { nodes = node 4 ∷ node 4 ∷ node 4 ∷ []; vms = vm 3 0 1 
 unfoldable pub oneMove : Step
 oneMove = record { vm = 0; source = Unnamed; to = 1 } ∷ []
 
+-- on one node of memory 4, VM 0 is to shut down and VM 1 to be launched
+unfoldable pub turnover : Room
+turnover = record { nodes = node 4 ∷ []; vms = vm 3 0 nowhere ∷ vm 2 nowhere 0 ∷ []; constraints = [] }
+
+unfoldable pub shutdown : Step
+shutdown = record { vm = 0; source = Unnamed; to = nowhere } ∷ []
+
+unfoldable pub launch : Step
+launch = record { vm = 1; source = Unnamed; to = 0 } ∷ []
+
+unfoldable pub bothAtOnce : Step
+bothAtOnce = record { vm = 0; source = Unnamed; to = nowhere } ∷ record { vm = 1; source = Unnamed; to = 0 } ∷ []
+
+-- both VMs are fenced in on node 0, and mates
+unfoldable pub fenced : Room
+fenced = record { nodes = node 4 ∷ []; vms = vm 3 0 nowhere ∷ vm 2 nowhere 0 ∷ []; constraints = fence (0 ∷ 1 ∷ []) (0 ∷ []) ∷ spread (0 ∷ 1 ∷ []) ∷ [] }
+
+-- VM 0 of memory 3 is to stay on node 0
+unfoldable pub killed : Room
+killed = record { nodes = node 4 ∷ []; vms = vm 3 0 0 ∷ []; constraints = [] }
+
 -- ---- the wrong readings
 
 -- the source is freed when a move begins
@@ -59,7 +83,7 @@ fitsFreed room cs v d = within (nodeOf room d) (withVm (tallyFreed room d cs) (v
 
 -- a departure in the same step pays for an arrival: the step is weighed once all its moves have ended
 unfoldable pub fittingEnded : Room → Placement → Step → Bool
-fittingEnded room places step = all (λ move. within (nodeOf room (move .to)) (tallyAt room (move .to) (allOver (firstMoment room places step)))) step
+fittingEnded room places step = all (λ move. bears room (move .to) (tallyAt room (move .to) (allOver (firstMoment room places step)))) step
 
 -- spreads are tested at the step's end only
 unfoldable pub unmetEnded : Room → Placement → Step → Bool
@@ -85,9 +109,22 @@ pub record ToldApart : Type 0 where
   pub overfull-wrong : fitsEverywhere overfull (firstMoment overfull (currentOf overfull) oneMove) 0 1 ≡ false
   pub overfull-right : fits overfull (firstMoment overfull (currentOf overfull) oneMove) 0 1 ≡ true
   pub overfull-sound : soundStep overfull (currentOf overfull) oneMove ≡ true
+  -- a shutdown counts on its node until it has ended: it pays for no launch of its own step, but for one of the next
+  pub shutdown-wrong : fittingEnded turnover (currentOf turnover) bothAtOnce ≡ true
+  pub shutdown-right : stepCheck turnover (currentOf turnover) bothAtOnce ≡ Faulty Misfit
+  pub launch-early : stepCheck turnover (currentOf turnover) launch ≡ Faulty Misfit
+  pub shutdown-sound : stepCheck turnover (currentOf turnover) shutdown ≡ Clear
+  pub launch-later : stepCheck turnover (after (currentOf turnover) shutdown) launch ≡ Clear
+  -- neither a fence nor a mate that is down is asked of a shutdown
+  pub fence-free : stepCheck fenced (currentOf fenced) shutdown ≡ Clear
+  -- what is wanted on a node is not shut down
+  pub goes-on : stepCheck killed (currentOf killed) shutdown ≡ Faulty Misnamed
+  -- a shutdown has memory 0, and still pays for the steps before it; a launch has its memory
+  pub shutdown-cost : costOf turnover (shutdown ∷ launch ∷ []) ≡ 2
+  pub shutdown-later : costOf turnover (launch ∷ shutdown ∷ []) ≡ 4
 
 pub told-apart : ToldApart
-unfolding all has vmsOf nodeOf vmOf currentOf within countsOn tallyAt phaseOf cellsFrom firstMoment begun allRunning fits spreads some mates meetsMate from keepsFrom allowed named permitted fitting unmet soundStep overAt allOver swap bothMoves oneRuns overfull oneMove countsFreed tallyFreed fitsFreed fittingEnded unmetEnded fitsEverywhere
+unfolding all has vmsOf nodeOf vmOf onNode currentOf targetOf within bears countsOn tallyAt phaseOf cellsFrom firstMoment begun allRunning fits spreads some mates meetsMate from keepsFrom allowed aims named permitted fitting unmet soundStep stepCheck after isPlace sourced memoryOf stepCost costFrom costOf sumOf overAt allOver swap bothMoves oneRuns overfull oneMove turnover bothAtOnce shutdown launch killed fenced countsFreed tallyFreed fitsFreed fittingEnded unmetEnded fitsEverywhere
 told-apart = record {
   source-wrong = refl;
   source-right = refl;
@@ -98,4 +135,13 @@ told-apart = record {
   overfull-wrong = refl;
   overfull-right = refl;
   overfull-sound = refl;
+  shutdown-wrong = refl;
+  shutdown-right = refl;
+  launch-early = refl;
+  shutdown-sound = refl;
+  launch-later = refl;
+  fence-free = refl;
+  goes-on = refl;
+  shutdown-cost = refl;
+  shutdown-later = refl;
 }

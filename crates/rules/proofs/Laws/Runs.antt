@@ -1,5 +1,5 @@
 -- Laws on whole runs: where they end, when all of them obey the rules, how full the nodes are.
-use Prim.Native.Nat.{ℕ, zero, suc, _+_, _≤_}
+use Prim.Native.Nat.{ℕ, zero, suc, _+_, _≤_, _<_}
 use mathlib.Core.Bool.{Bool, true, false, _||_, false≢true, or-true, or-false}
 use mathlib.Core.List.{List, [], _∷_, _++_, map}
 use mathlib.Core.Logic.{inl, inr, _↔_}
@@ -9,10 +9,11 @@ use lib.ListN.{length, getD}
 use lib.Dec.{leb, eqb}
 use borrow.Author.Tests.{leb-true, eqb-true, eqb-false, le-leb, ne-eqb}
 use Rattle.records.specs.Base.{pick, all}
-use Rattle.records.specs.Room.{Room, nodeOf}
+use Rattle.records.specs.Room.{Room, vmOf, nodeOf, onNode}
 use Rattle.records.specs.Plan.{Step}
 use Rattle.records.proofs.Laws.Bools.{and-left, and-right, and-both}
-use Rattle.rules.specs.Moments.{Placement, placeOf, after, within, Phase, idle, waiting, running, ended, cell, Moment, numberOf, countsOn, tallyAt, phaseOf, cellsFrom, firstMoment, atRest, rests, settled, leftAt, placesLeft}
+use Rattle.records.proofs.Laws.Rows.{node-on}
+use Rattle.rules.specs.Moments.{Placement, placeOf, after, within, bears, withVm, Phase, idle, waiting, running, ended, cell, Moment, numberOf, countsOn, tallyAt, phaseOf, cellsFrom, firstMoment, atRest, rests, settled, leftAt, placesLeft}
 use Rattle.rules.specs.Orders.{begin, finish, Event, begins, ends, later, Order, done, next, Run, stop, step, fits, meetsMate, EachBegin, SomeBegin, EachMoment, EachChange, EachBeginOfRun, EachMomentOfRun, EachChangeOfRun, MayBegin}
 use Rattle.rules.specs.Rules.{from, allowed, named, permitted, fitting, unmet, soundStep}
 use Rattle.rules.specs.Promises.{afterAll, namedAll, soundAll, Obeys, SoundInOrders, SomeOrder, StaysWithin}
@@ -302,19 +303,23 @@ kept-moments-run Q (step o s r) c q = let k = kept-moments Q o (c .1) (c .0 q) i
 
 -- ---- no run of sound steps takes a node past what it has
 
--- what a VM that fits says of each number
-module _ (room : Room) (cs : Moment) (v d : ℕ) (e : fits room cs v d ≡ true) where
+-- what a VM that fits on a node says of each number
+module _ (room : Room) (cs : Moment) (v d : ℕ) (n : onNode d ≡ true) (e : fits room cs v d ≡ true) where
+  fits-with : within (nodeOf room d) (withVm (tallyAt room d cs) (vmOf room v)) ≡ true
+  unfolding fits bears
+  fits-with = ap (λ (b : Bool). pick b (within (nodeOf room d) (withVm (tallyAt room d cs) (vmOf room v))) true) (sym n) ∙ e
+
   fits-memory : tallyAt room d cs .memory + memoryIn room v ≤ nodeOf room d .memory
-  unfolding fits within
+  unfolding within
   fits-memory =
       leb-true (tallyAt room d cs .memory + memoryIn room v) (nodeOf room d .memory)
-      (and-left (leb (tallyAt room d cs .memory + memoryIn room v) (nodeOf room d .memory)) _ e)
+      (and-left (leb (tallyAt room d cs .memory + memoryIn room v) (nodeOf room d .memory)) _ fits-with)
 
   fits-cpu : tallyAt room d cs .cpu + cpuIn room v ≤ nodeOf room d .cpu
-  unfolding fits within
+  unfolding within
   fits-cpu =
       leb-true (tallyAt room d cs .cpu + cpuIn room v) (nodeOf room d .cpu)
-      (and-right (leb (tallyAt room d cs .memory + memoryIn room v) (nodeOf room d .memory)) _ e)
+      (and-right (leb (tallyAt room d cs .memory + memoryIn room v) (nodeOf room d .memory)) _ fits-with)
 
   pub fits-within : within (nodeOf room d) (tallyAt room d cs) ≡ true
   unfolding within
@@ -322,37 +327,43 @@ module _ (room : Room) (cs : Moment) (v d : ℕ) (e : fits room cs v d ≡ true)
       let m = fits-memory in let c = fits-cpu in
       and-both (le-leb (tallyAt room d cs .memory) (nodeOf room d .memory) (omega arith)) (le-leb (tallyAt room d cs .cpu) (nodeOf room d .cpu) (omega arith))
 
-  room-memory : (k : ℕ) → Room-for (memoryIn room) k (nodeOf room k .memory) cs v d
-  room-memory k q = let m = fits-memory in rw (← q) (omega (arith, memory-load room d cs))
+module _ (room : Room) (cs : Moment) (v to d : ℕ) (n : onNode d ≡ true) (e : fits room cs v to ≡ true) where
+  there : to ≡ d → fits room cs v d ≡ true
+  there q = ap (fits room cs v) (sym q) ∙ e
 
-  room-cpu : (k : ℕ) → Room-for (cpuIn room) k (nodeOf room k .cpu) cs v d
-  room-cpu k q = let m = fits-cpu in rw (← q) (omega (arith, cpu-load room d cs))
+  room-memory : Room-for (memoryIn room) d (nodeOf room d .memory) cs v to
+  room-memory q = let m = fits-memory room cs v d n (there q) in omega (arith, memory-load room d cs)
 
-module _ (room : Room) (places : Placement) (steps : List Step) (e : soundAll room places steps ≡ true) (l : length places ≡ length (room .vms)) where
-  memory-stays : (last : Placement) (run : Run room places steps last) (d : ℕ) →
+  room-cpu : Room-for (cpuIn room) d (nodeOf room d .cpu) cs v to
+  room-cpu q = let m = fits-cpu room cs v d n (there q) in omega (arith, cpu-load room d cs)
+
+module _ (room : Room) (places : Placement) (steps : List Step) (few : length (room .nodes) ≤ 64) (e : soundAll room places steps ≡ true)
+    (l : length places ≡ length (room .vms)) where
+  memory-stays : (last : Placement) (run : Run room places steps last) (d : ℕ) → d < length (room .nodes) →
       EachChangeOfRun (λ cs ds. tallyAt room d cs .memory ≤ nodeOf room d .memory → tallyAt room d ds .memory ≤ nodeOf room d .memory) run
-  memory-stays last run d =
+  memory-stays last run d h =
       each-change-run (λ cs ds. load (memoryIn room) d cs ≤ nodeOf room d .memory → load (memoryIn room) d ds ≤ nodeOf room d .memory)
       (λ cs ds. tallyAt room d cs .memory ≤ nodeOf room d .memory → tallyAt room d ds .memory ≤ nodeOf room d .memory)
       (λ cs ds h m. rw (memory-load room d ds) (h (rw (memory-load room d cs) at m))) run
       (run-changes (memoryIn room) d (nodeOf room d .memory) run
-      (each-run (Obeys room) (Room-for (memoryIn room) d (nodeOf room d .memory)) (λ cs v k p. room-memory room cs v k (p .may .fit) d) run (run-obeys e l run)))
+      (each-run (Obeys room) (Room-for (memoryIn room) d (nodeOf room d .memory)) (λ cs v k p. room-memory room cs v k d (node-on (length (room .nodes)) d few h) (p .may .fit)) run (run-obeys e l run)))
 
-  cpu-stays : (last : Placement) (run : Run room places steps last) (d : ℕ) →
+  cpu-stays : (last : Placement) (run : Run room places steps last) (d : ℕ) → d < length (room .nodes) →
       EachChangeOfRun (λ cs ds. tallyAt room d cs .cpu ≤ nodeOf room d .cpu → tallyAt room d ds .cpu ≤ nodeOf room d .cpu) run
-  cpu-stays last run d =
+  cpu-stays last run d h =
       each-change-run (λ cs ds. load (cpuIn room) d cs ≤ nodeOf room d .cpu → load (cpuIn room) d ds ≤ nodeOf room d .cpu)
       (λ cs ds. tallyAt room d cs .cpu ≤ nodeOf room d .cpu → tallyAt room d ds .cpu ≤ nodeOf room d .cpu)
       (λ cs ds h m. rw (cpu-load room d ds) (h (rw (cpu-load room d cs) at m))) run
       (run-changes (cpuIn room) d (nodeOf room d .cpu) run
-      (each-run (Obeys room) (Room-for (cpuIn room) d (nodeOf room d .cpu)) (λ cs v k p. room-cpu room cs v k (p .may .fit) d) run (run-obeys e l run)))
+      (each-run (Obeys room) (Room-for (cpuIn room) d (nodeOf room d .cpu)) (λ cs v k p. room-cpu room cs v k d (node-on (length (room .nodes)) d few h) (p .may .fit)) run (run-obeys e l run)))
 
   pub stays-within : StaysWithin room places steps
   stays-within = record {
-    memory = λ last run d m. kept-moments-run (λ cs. tallyAt room d cs .memory ≤ nodeOf room d .memory) run (memory-stays last run d) m;
-    cpu = λ last run d m. kept-moments-run (λ cs. tallyAt room d cs .cpu ≤ nodeOf room d .cpu) run (cpu-stays last run d) m;
+    memory = λ last run d h m. kept-moments-run (λ cs. tallyAt room d cs .memory ≤ nodeOf room d .memory) run (memory-stays last run d h) m;
+    cpu = λ last run d h m. kept-moments-run (λ cs. tallyAt room d cs .cpu ≤ nodeOf room d .cpu) run (cpu-stays last run d h) m;
     memory-stays = memory-stays;
     cpu-stays = cpu-stays;
     arrivals = λ last run.
-        each-run (Obeys room) (λ cs v d. (fits room cs v d ≡ true) × (within (nodeOf room d) (tallyAt room d cs) ≡ true)) (λ cs v d p. (p .may .fit, fits-within room cs v d (p .may .fit))) run (run-obeys e l run);
+        each-run (Obeys room) (λ cs v d. d < length (room .nodes) → (fits room cs v d ≡ true) × (within (nodeOf room d) (tallyAt room d cs) ≡ true))
+        (λ cs v d p h. (p .may .fit, fits-within room cs v d (node-on (length (room .nodes)) d few h) (p .may .fit))) run (run-obeys e l run);
   }

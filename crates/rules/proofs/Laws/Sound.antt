@@ -9,16 +9,16 @@ use lib.ListN.{length}
 use lib.Dec.{eqb}
 use borrow.Author.Tests.{eqb-true, ne-eqb}
 use Rattle.records.specs.Base.{pick, all}
-use Rattle.records.specs.Room.{Room, nodeOf}
+use Rattle.records.specs.Room.{Room}
 use Rattle.records.specs.Plan.{Move, Step}
 use Rattle.records.proofs.Laws.Bools.{and-left, and-right, and-both}
-use Rattle.rules.specs.Moments.{Placement, placeOf, idle, waiting, cell, countsOn, within, tallyAt, phaseOf, cellsFrom, firstMoment, begun, allRunning}
+use Rattle.rules.specs.Moments.{Placement, placeOf, idle, waiting, cell, countsOn, bears, tallyAt, phaseOf, cellsFrom, firstMoment, begun, allRunning}
 use Rattle.rules.specs.Orders.{meetsMate}
 use Rattle.rules.specs.Rules.{allowed, named, sourced, permitted, fitting, unmet, stepCheck, soundStep}
 use Rattle.rules.specs.declared.faults.StepFault.the-variants.{Misnamed, Elsewhere, Forbidden, Misfit, Mate}
 use Rattle.rules.specs.declared.faults.StepCheck.{StepCheck}
 use Rattle.rules.specs.declared.faults.StepCheck.the-variants.{Clear, Faulty}
-use Rattle.rules.proofs.Laws.Orders.{never, Under, empty, both, meets-under, within-under, named-least, named-vm, named-node, named-off, named-rest, named-cons}
+use Rattle.rules.proofs.Laws.Orders.{never, Under, empty, both, meets-under, bears-under, named-least, named-vm, named-sends, named-off, named-rest, named-cons}
 
 -- the first fault from the tests
 abbrev found : Bool → Bool → Bool → Bool → Bool → StepCheck
@@ -191,7 +191,7 @@ module _ (room : Room) (places : Placement) where
       let l = named-least room places least b moves e in
       let k : low ≤ b .vm = omega arith in
       let t : named room places low (b ∷ part) ≡ true =
-      named-cons room places low b part k (named-vm room places least b moves e) (named-node room places least b moves e)
+      named-cons room places low b part k (named-vm room places least b moves e) (named-sends room places least b moves e)
       (named-off room places least b moves e) (named-part (suc (b .vm)) (suc (b .vm)) s (omega arith) (named-rest room places least b moves e)) in
       ap (λ (x : Move). named room places low (x ∷ part)) p ∙ t
 
@@ -256,10 +256,10 @@ module _ (room : Room) (places : Placement) {part whole : Step} (s : Sublistᴰ 
   pub fitting-part : fitting room places whole ≡ true → fitting room places part ≡ true
   unfolding fitting
   fitting-part e =
-      all-more (λ move. within (nodeOf room (move .to)) (tallyAt room (move .to) (allRunning (firstMoment room places whole))))
-      (λ move. within (nodeOf room (move .to)) (tallyAt room (move .to) (allRunning (firstMoment room places part))))
-      (λ move h. within-under room (nodeOf room (move .to)) (under-first (move .to)) h) part
-      (all-part (λ move. within (nodeOf room (move .to)) (tallyAt room (move .to) (allRunning (firstMoment room places whole)))) s e)
+      all-more (λ move. bears room (move .to) (tallyAt room (move .to) (allRunning (firstMoment room places whole))))
+      (λ move. bears room (move .to) (tallyAt room (move .to) (allRunning (firstMoment room places part))))
+      (λ move h. bears-under room (under-first (move .to)) h) part
+      (all-part (λ move. bears room (move .to) (tallyAt room (move .to) (allRunning (firstMoment room places whole)))) s e)
 
   pub unmet-part : unmet room places whole ≡ true → unmet room places part ≡ true
   unfolding unmet

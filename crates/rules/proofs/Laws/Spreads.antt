@@ -10,7 +10,7 @@ use lib.ListN.{length}
 use lib.Dec.{ltb, eqb}
 use borrow.Author.Tests.{eqb-true, ne-eqb, lt-ltb, le-ltb}
 use Rattle.records.specs.Base.{pick}
-use Rattle.records.specs.Room.{Room}
+use Rattle.records.specs.Room.{Room, onNode}
 use Rattle.records.specs.Plan.{Step}
 use Rattle.rules.specs.Moments.{Placement, Moment, numberOf, countsOn, firstMoment, atRest, placesLeft}
 use Rattle.rules.specs.Orders.{begin, finish, Event, Order, done, next, Run, stop, step, some, mates, meetsMate, standsOn, Apart, EachBegin, EachChange, EachBeginOfRun, EachChangeOfRun}
@@ -21,8 +21,8 @@ use Rattle.rules.proofs.Laws.Runs.{begin-elsewhere, end-under, first-re
 
 -- ---- where a VM counts
 
--- it counts on a node exactly if the load of that VM alone is not 0 there
-alone : ℕ → ℕ → ℕ
+-- it counts on a place exactly if the load of that VM alone is not 0 there
+pub alone : ℕ → ℕ → ℕ
 alone v n = pick (eqb n v) 1 0
 
 stands-load : (v d : ℕ) (cs : Moment) → standsOn cs v d ≡ ltb 0 (load (alone v) d cs)
@@ -36,7 +36,7 @@ stands-load v d (c ∷ cs) = picked (eqb (numberOf c) v) (countsOn d c) (load (a
     picked false true n e = let z : n + 0 ≡ n = omega arith in rw z e
     picked false false n e = e
 
-same-stands : (v d : ℕ) (cs ds : Moment) → load (alone v) d ds ≡ load (alone v) d cs → standsOn ds v d ≡ standsOn cs v d
+pub same-stands : (v d : ℕ) (cs ds : Moment) → load (alone v) d ds ≡ load (alone v) d cs → standsOn ds v d ≡ standsOn cs v d
 same-stands v d cs ds e = stands-load v d ds ∙ ap (ltb 0) e ∙ sym (stands-load v d cs)
 
 -- what counts under a moment counts there
@@ -54,36 +54,40 @@ enters v d {cs} {ds} {u} {to} e s =
     (λ q. inl (stands-under v (begin-elsewhere d q e) s))
 
 -- a mate that counts on a node is met there
-stands-met : (room : Room) (v w d : ℕ) (cs : Moment) → mates room v w ≡ true → standsOn cs w d ≡ true → meetsMate room cs v d ≡ true
-unfolding standsOn meetsMate some
-stands-met room v w d [] m s = absurd (false≢true s)
-stands-met room v w d (c ∷ cs) m s = go (eqb (numberOf c) w) refl (countsOn d c) s (stands-met room v w d cs m)
+stands-some : (room : Room) (v w d : ℕ) (cs : Moment) → mates room v w ≡ true → standsOn cs w d ≡ true → some (λ c. mates room v (numberOf c) && countsOn d c) cs ≡ true
+unfolding standsOn some
+stands-some room v w d [] m s = absurd (false≢true s)
+stands-some room v w d (c ∷ cs) m s = go (eqb (numberOf c) w) refl (countsOn d c) s (stands-some room v w d cs m)
   where
     go : (a : Bool) → eqb (numberOf c) w ≡ a → (b : Bool) {x y : Bool} → (a && b || x) ≡ true → (x ≡ true → y ≡ true) → (mates room v (numberOf c) && b || y) ≡ true
     go true q true e more = rw (eqb-true (numberOf c) w q, m)
     go true q false e more = rw (more e) (or-true (mates room v (numberOf c) && false))
     go false q b e more = rw (more e) (or-true (mates room v (numberOf c) && b))
 
+stands-met : (room : Room) (v w d : ℕ) (cs : Moment) → onNode d ≡ true → mates room v w ≡ true → standsOn cs w d ≡ true → meetsMate room cs v d ≡ true
+unfolding meetsMate
+stands-met room v w d cs n m s = rw n (stands-some room v w d cs m s)
+
 -- ---- from one moment to the next
 
 module _ (room : Room) (v w : ℕ) (m : mates room v w ≡ true) where
   begin-apart : {cs ds : Moment} {u to : ℕ} → Event cs (begin u to) ds → meetsMate room cs u to ≡ false → Apart v w cs → Apart v w ds
-  begin-apart {cs} {ds} {u} {to} e f a d x y = go (enters v d e x) (enters w d e y)
+  begin-apart {cs} {ds} {u} {to} e f a d n x y = go (enters v d e x) (enters w d e y)
     where
       go : (standsOn cs v d ≡ true) ⊎ ((v ≡ u) × (d ≡ to)) → (standsOn cs w d ≡ true) ⊎ ((w ≡ u) × (d ≡ to)) → ⊥
-      go (inl p) (inl q) = a d p q
-      go (inl p) (inr q) = false≢true (sym f ∙ rw (← q .0, ← q .1) (stands-met room w v d cs (mates-sym room w v ∙ m) p))
-      go (inr p) (inl q) = false≢true (sym f ∙ rw (← p .0, ← p .1) (stands-met room v w d cs m q))
+      go (inl p) (inl q) = a d n p q
+      go (inl p) (inr q) = false≢true (sym f ∙ rw (← q .0, ← q .1) (stands-met room w v d cs n (mates-sym room w v ∙ m) p))
+      go (inr p) (inl q) = false≢true (sym f ∙ rw (← p .0, ← p .1) (stands-met room v w d cs n m q))
       go (inr p) (inr q) = false≢true (sym (not-own-mate room v) ∙ rw (q .0 ∙ sym (p .0)) at m)
 
   order-apart : {cs ds : Moment} (o : Order cs ds) → EachBegin (Obeys room) o → EachChange (λ xs ys. Apart v w xs → Apart v w ys) o
   order-apart done b = tt
   order-apart (next {a = begin u to} e o) b = (begin-apart e (b .0 .may .apart), order-apart o (b .1))
-  order-apart (next {a = finish u} e o) b = (λ a d x y. a d (stands-under v (end-under d e) x) (stands-under w (end-under d e) y), order-apart o b)
+  order-apart (next {a = finish u} e o) b = (λ a d n x y. a d n (stands-under v (end-under d e) x) (stands-under w (end-under d e) y), order-apart o b)
 
   -- between two steps everybody counts where he did
   between : (cs ds : Moment) → ((u d : ℕ) → load (alone u) d ds ≡ load (alone u) d cs) → Apart v w cs → Apart v w ds
-  between cs ds e a d x y = a d (sym (same-stands v d cs ds (e v d)) ∙ x) (sym (same-stands w d cs ds (e w d)) ∙ y)
+  between cs ds e a d n x y = a d n (sym (same-stands v d cs ds (e v d)) ∙ x) (sym (same-stands w d cs ds (e w d)) ∙ y)
 
   run-apart : {places last : Placement} {steps : List Step} (run : Run room places steps last) → EachBeginOfRun (Obeys room) run →
       EachChangeOfRun (λ xs ys. Apart v w xs → Apart v w ys) run

@@ -8,11 +8,11 @@ use native.Mathlib.Numerals.{add-one}
 use native.Mathlib.Omega.{arith}
 use lib.ListN.{length, getD, drop, replicate, drop-of-length-le, length-drop}
 use lib.Seq.{drop-cons, length-take-le}
-use lib.Dec.{eqb}
+use lib.Dec.{ltb, eqb}
 use mir.Syntax.{w64}
 use mir.Val.{Fits}
-use borrow.Author.Tests.{eq-eqb, ne-eqb}
-use Rattle.records.specs.Base.{all}
+use borrow.Author.Tests.{lt-ltb, le-ltb, eq-eqb, ne-eqb}
+use Rattle.records.specs.Base.{pick, all}
 use Rattle.records.specs.Bytes.{byteAt}
 use Rattle.records.specs.Room.{Constraint, ban, fence, spread, latency, kindOf, vmsOf, nodesOf, groupsOf, listOk, nodeOf, vmOf, roomOf, nodeCount, vmCount, nodesAt, nodesEnd, groupsFrom, othersAt, constraintOf, clusterCheck}
 use Rattle.records.specs.Inner.{Below}
@@ -27,10 +27,9 @@ use Rattle.rules.specs.Moments.{Placement, placeOf, targetOf, within, em
 use Rattle.rules.specs.Orders.{some}
 use Rattle.rules.specs.Rules.{from, fitsAll, named}
 use Rattle.rules.specs.Verdict.{home}
-use Rattle.rules.specs.Inner.{held, Placed, destsFrom, busyFrom, Ready, Loads, Low, Formed, Nodes, Grouping, stopped, goUnmet, fitsUpTo, homeFrom, clearOf, groupHolds, keepsIn}
+use Rattle.rules.specs.Inner.{held, destsFrom, busyFrom, Ready, Loads, Formed, Grouping, stopped, goUnmet, fitsUpTo, homeFrom, clearOf, allDown, groupHolds, keepsIn}
 use Rattle.rules.specs.declared.tally.Tally.{Tally}
 use Rattle.rules.proofs.Laws.Places.{target-at}
-use Rattle.rules.proofs.Laws.Loads.{loads-each}
 use Rattle.rules.proofs.Laws.Fit.{named-ready, running-is, first-is, held-at}
 
 -- ---- counting up: a test of all numbers from d on
@@ -83,8 +82,8 @@ pub dests-none : destsFrom [] ≡ replicate 256 64
 unfolding destsFrom
 dests-none = refl
 
-pub rest-ready : (s places dests : List ℕ) → dests ≡ replicate 256 64 → clusterCheck s ≡ Whole → Placed s places → Ready s places dests
-rest-ready s places dests e w p = rw (e, ← dests-none) (named-ready s places [] w (no-moves s places) (p .below))
+pub rest-ready : (s places dests : List ℕ) → dests ≡ replicate 256 64 → clusterCheck s ≡ Whole → Ready s places dests
+rest-ready s places dests e w = rw (e, ← dests-none) (named-ready s places [] w (no-moves s places))
 
 all-from-same : (p q : ℕ → Bool) (d n most : ℕ) → ((k : ℕ) → k < most → p k ≡ q k) → d + n ≤ most → all p (from d n) ≡ all q (from d n)
 unfolding all from
@@ -97,7 +96,7 @@ unfolding fitsUpTo fitsAll
 rest-fits s places dests sums r e l f w =
     f ∙ ap (λ (n : ℕ). all (λ k. within (nodeOf (roomOf s) k) (getD sums k emptyTally)) (from 0 n)) (sym (nodes-count s)) ∙
     all-from-same (λ k. within (nodeOf (roomOf s) k) (getD sums k emptyTally)) (λ d. within (nodeOf (roomOf s) d) (tallyAt (roomOf s) d (firstMoment (roomOf s) (held s places) [])))
-    0 (length (roomOf s .nodes)) 64 (λ k h. ap (within (nodeOf (roomOf s) k)) (loads-each s places dests sums l k (omega arith) ∙ ap (tallyAt (roomOf s) k) moment)) (rw (nodes-count s) (let m = nodes-most s w in omega arith))
+    0 (length (roomOf s .nodes)) 64 (λ k h. ap (within (nodeOf (roomOf s) k)) (l .each k (omega arith) ∙ ap (tallyAt (roomOf s) k) moment)) (rw (nodes-count s) (let m = nodes-most s w in omega arith))
   where
     moment : busyFrom places dests 0 (vmCount s) ≡ firstMoment (roomOf s) (held s places) []
     moment =
@@ -130,25 +129,19 @@ home-start s places n q = rw (sub-zero n, q, ← vms-count s)
 
 -- ---- 9: the pass over a list of VMs
 
-pub low-index : (places : List ℕ) (v p : ℕ) → p ≡ getD places v 0 → Low places → p < 64
-low-index places v p e l = rw e (l .below v)
-
-pub placed-low : (s places : List ℕ) → clusterCheck s ≡ Whole → Placed s places → Low places
-placed-low s places w p = record { below = λ v. let m = nodes-most s w in let b = p .below v in omega arith }
-
-pub low-nodes : (places : List ℕ) → Low places → Nodes places
-low-nodes places l = record { each = λ v. let b = l .below v in omega arith }
-
 module _ (stop places vms : List ℕ) (i v p : ℕ) (result : Bool) (e : v ≡ getD vms i 0) (f : p ≡ getD places v 0) (inv : clearOf stop places (drop i vms) ≡ result) (h : i < length vms) where
-  clear-opened : (eqb (getD stop p 0) 0 && clearOf stop places (drop (suc i) vms)) ≡ result
+  clear-opened : (pick (ltb p 64) (eqb (getD stop p 0) 0) true && clearOf stop places (drop (suc i) vms)) ≡ result
   unfolding clearOf all
   clear-opened = rw (f, e) (simp (drop-cons vms i 0 h) at inv)
 
-  pub clear-not : (getD stop p 0 ≡ 0 → ⊥) → false ≡ result
-  clear-not x = simp (ne-eqb (getD stop p 0) 0 x) at clear-opened
+  pub clear-off : 64 ≤ p → clearOf stop places (drop (i + 1) vms) ≡ result
+  clear-off x = rw (add-one i) (simp (le-ltb p 64 x) at clear-opened)
 
-  pub clear-more : getD stop p 0 ≡ 0 → clearOf stop places (drop (i + 1) vms) ≡ result
-  clear-more x = rw (add-one i) (simp (eq-eqb (getD stop p 0) 0 x) at clear-opened)
+  pub clear-not : p < 64 → (getD stop p 0 ≡ 0 → ⊥) → false ≡ result
+  clear-not l x = simp (lt-ltb p 64 l, ne-eqb (getD stop p 0) 0 x) at clear-opened
+
+  pub clear-more : p < 64 → getD stop p 0 ≡ 0 → clearOf stop places (drop (i + 1) vms) ≡ result
+  clear-more l x = rw (add-one i) (simp (lt-ltb p 64 l, eq-eqb (getD stop p 0) 0 x) at clear-opened)
 
 pub clear-end : (stop places vms : List ℕ) (i : ℕ) (result : Bool) → clearOf stop places (drop i vms) ≡ result → length vms ≤ i → true ≡ result
 unfolding clearOf all
@@ -245,14 +238,14 @@ module _ (places vms : List ℕ) (k : Constraint) (kind : Kind) (a : kind ≡ ki
   fence-kept (spread xs) e = let z : _≡_ {A = ℕ} 0 1 = cc in absurd (omega arith)
   fence-kept (latency xs groups) e = let z : _≡_ {A = ℕ} 0 1 = cc in absurd (omega arith)
 
-  spread-kept : (k : Constraint) → kindOf k ≡ Spread → keepsIn places k ≡ goUnmet (replicate 65 0) places (vmsOf k)
+  spread-kept : (k : Constraint) → kindOf k ≡ Spread → keepsIn places k ≡ goUnmet (replicate 256 0) places (vmsOf k)
   unfolding keepsIn kindOf vmsOf
   spread-kept (ban xs nodes) e = let z : _≡_ {A = ℕ} 0 1 = cc in absurd (omega arith)
   spread-kept (fence xs nodes) e = let z : _≡_ {A = ℕ} 0 1 = cc in absurd (omega arith)
   spread-kept (spread xs) e = refl
   spread-kept (latency xs groups) e = let z : _≡_ {A = ℕ} 0 1 = cc in absurd (omega arith)
 
-  latency-kept : (k : Constraint) → kindOf k ≡ Latency → keepsIn places k ≡ (eqb (length (vmsOf k)) 0 || some (groupHolds places (vmsOf k)) (groupsOf k))
+  latency-kept : (k : Constraint) → kindOf k ≡ Latency → keepsIn places k ≡ (allDown places (vmsOf k) || some (groupHolds places (vmsOf k)) (groupsOf k))
   unfolding keepsIn kindOf vmsOf groupsOf
   latency-kept (ban xs nodes) e = let z : _≡_ {A = ℕ} 0 1 = cc in absurd (omega arith)
   latency-kept (fence xs nodes) e = let z : _≡_ {A = ℕ} 0 1 = cc in absurd (omega arith)
@@ -265,14 +258,19 @@ module _ (places vms : List ℕ) (k : Constraint) (kind : Kind) (a : kind ≡ ki
   pub kept-fence : (nodes stop : List ℕ) (r : Bool) → nodes ≡ nodesOf k → stop ≡ stopped (replicate 64 1) 0 nodes → r ≡ clearOf stop places vms → kind ≡ Fence → r ≡ keepsIn places k
   kept-fence nodes stop r n s e b = e ∙ rw (s, n, v) (sym (fence-kept k (sym a ∙ b)))
 
-  pub kept-spread : (r : Bool) → r ≡ goUnmet (replicate 65 0) places vms → kind ≡ Spread → r ≡ keepsIn places k
+  pub kept-spread : (r : Bool) → r ≡ goUnmet (replicate 256 0) places vms → kind ≡ Spread → r ≡ keepsIn places k
   kept-spread r e b = e ∙ rw v (sym (spread-kept k (sym a ∙ b)))
 
-  pub kept-empty : length vms ≡ 0 → kind ≡ Latency → true ≡ keepsIn places k
-  kept-empty z b = sym (latency-kept k (sym a ∙ b) ∙ rw (eq-eqb (length (vmsOf k)) 0 (ap length (sym v) ∙ z)))
+  module _ (down : Bool) (d : down ≡ clearOf (replicate 64 1) places vms) where
+    down-is : allDown places (vmsOf k) ≡ down
+    unfolding allDown
+    down-is = rw (← v) (sym d)
 
-  pub kept-groups : (r : Bool) → r ≡ some (groupHolds places vms) (groupsOf k) → (length vms ≡ 0 → ⊥) → kind ≡ Latency → r ≡ keepsIn places k
-  kept-groups r e z b = e ∙ sym (latency-kept k (sym a ∙ b) ∙ rw (ne-eqb (length (vmsOf k)) 0 (λ q. z (ap length v ∙ q)), v))
+    pub kept-down : down ≡ true → kind ≡ Latency → true ≡ keepsIn places k
+    kept-down z b = sym (latency-kept k (sym a ∙ b) ∙ rw (down-is ∙ z))
+
+    pub kept-groups : (r : Bool) → r ≡ some (groupHolds places vms) (groupsOf k) → down ≡ false → kind ≡ Latency → r ≡ keepsIn places k
+    kept-groups r e z b = e ∙ sym (latency-kept k (sym a ∙ b) ∙ rw (down-is ∙ z, v))
 
 pub kind-latency : (k : Constraint) (kind : Kind) → kind ≡ kindOf k → kind ≡ Latency → kindOf k ≡ Latency
 kind-latency k kind a b = sym a ∙ b

@@ -13,7 +13,7 @@ use mir.Syntax.{w64}
 use mir.Val.{Fits}
 use Rattle.records.specs.Base.{pick}
 use Rattle.records.specs.Bytes.{AreBytes}
-use Rattle.records.specs.Room.{Room, roomOf, nodeCount, vmCount, clusterCheck}
+use Rattle.records.specs.Room.{Room, roomOf, nodeCount, vmCount, placeOk, clusterCheck}
 use Rattle.records.specs.Plan.{Step, stepAt, stepEnd, stepCount, stepsFrom, stepsOf, planCheck}
 use Rattle.records.specs.declared.faults.ClusterCheck.{ClusterCheck}
 use Rattle.records.specs.declared.faults.ClusterFault.{ClusterFault}
@@ -40,7 +40,7 @@ use Rattle.rules.specs.Promises.{Checked}
 
 -- ---- a placement in an array, after a step
 
--- the moves of a well named step touch the first places only, and send to nodes that there are
+-- the moves of a well named step touch the first places only, and send to places that there are
 pub after-held : (s places : List ℕ) (start : Placement) (least : ℕ) (step : Step) → named (roomOf s) start least step ≡ true → held s (after places step) ≡ after (held s places) step
 unfolding after held
 after-held s places start least [] n = refl
@@ -48,23 +48,23 @@ after-held s places start least (move ∷ moves) n =
     after-held s (set places (move .vm) (move .to)) start (suc (move .vm)) moves (named-rest s start least move moves n) ∙
     ap (λ (x : Placement). after x moves) (take-set-lt (vmCount s) places (move .vm) (move .to) (named-vm s start least move moves n))
 
-pub set-below : (s places : List ℕ) (v d : ℕ) → Placed s places → d < nodeCount s → Placed s (set places v d)
-set-below s places v d p h = record { below = below }
+pub set-placed : (s places : List ℕ) (v d : ℕ) → Placed s places → placeOk true (nodeCount s) d ≡ true → Placed s (set places v d)
+set-placed s places v d p h = record { each = each }
   where
-    below : (u : ℕ) → getD (set places v d) u 0 < nodeCount s
-    below u =
+    each : (u : ℕ) → placeOk true (nodeCount s) (getD (set places v d) u 0) ≡ true
+    each u =
         by-cases (ℕ-discrete u v)
         (λ q. by-cases (decLt v (length places))
         (λ l. rw (ap (λ (k : ℕ). getD (set places v d) k 0) q ∙ getD-set-same places v d 0 l) h)
-        (λ l. rw (set-out places v d (omega arith)) (p .below u)))
-        (λ q. rw (getD-set-other places v u d 0 q) (p .below u))
+        (λ l. rw (set-out places v d (omega arith)) (p .each u)))
+        (λ q. rw (getD-set-other places v u d 0 q) (p .each u))
 
 pub after-placed : (s places : List ℕ) (start : Placement) (least : ℕ) (step : Step) → named (roomOf s) start least step ≡ true → Placed s places → Placed s (after places step)
 unfolding after
 after-placed s places start least [] n p = p
 after-placed s places start least (move ∷ moves) n p =
     after-placed s (set places (move .vm) (move .to)) start (suc (move .vm)) moves (named-rest s start least move moves n)
-    (set-below s places (move .vm) (move .to) p (named-to s start least move moves n))
+    (set-placed s places (move .vm) (move .to) p (named-to s start least move moves n))
 
 sound-step-named : (room : Room) (places : Placement) (step : Step) → stepCheck room places step ≡ StepCheck.Clear → named room places 0 step ≡ true
 sound-step-named room places step e = sound-named room places step (none-check room places step .0 e .0)

@@ -13,6 +13,9 @@ use std::thread;
 /// A larger room, and an input that is too long, come with every so many generated clusters.
 const CLUSTERS_A_ROOM: usize = 20;
 
+/// From so many inputs on, some must be planned with a launch and some with a shutdown.
+const ENOUGH: usize = 1_000;
+
 fn main() {
     let words: Vec<String> = env::args().skip(1).collect();
     let numbers: Vec<usize> = words.iter().skip(1).filter_map(|word| word.parse().ok()).collect();
@@ -21,14 +24,27 @@ fn main() {
         exit(2);
     };
     let inputs = inputs(seed as u64, count);
+    let (mut version_2, mut launches, mut shutdowns) = (0, 0, 0);
     for input in &inputs {
         let (printed, expected) = (run(path, input), plan_text(input));
         if printed != expected {
             println!("input {input:02x?}\nprogram {printed}model {expected}");
             exit(1);
         }
+        let moves = || expected.lines().skip(1).map(|line| line.split(' ').collect::<Vec<_>>());
+        version_2 += usize::from(input.first() == Some(&2));
+        launches += moves().filter(|words| words[2] == "255").count();
+        shutdowns += moves().filter(|words| words[3] == "255").count();
     }
-    println!("{path} printed the model's text on {} inputs", inputs.len());
+    println!(
+        "{path} printed the model's text on {} inputs, {version_2} of version 2, with {launches} \
+         launches and {shutdowns} shutdowns",
+        inputs.len()
+    );
+    if inputs.len() >= ENOUGH && (launches == 0 || shutdowns == 0) {
+        println!("the inputs have no launch or no shutdown");
+        exit(1);
+    }
 }
 
 fn inputs(seed: u64, count: usize) -> Vec<Vec<u8>> {
@@ -45,10 +61,10 @@ fn inputs(seed: u64, count: usize) -> Vec<Vec<u8>> {
     inputs
 }
 
-/// A header and more bytes than a record may have, of the right version or not.
+/// A header and more bytes than a record may have, of a version that is taken or not.
 fn too_long(rng: &mut Rng) -> Vec<u8> {
     let mut input = vec![0; rng.pick(&[65_536, 65_537, 131_072, 200_000])];
-    input[0] = rng.pick(&[0, 1, 2]);
+    input[0] = rng.pick(&[0, 1, 2, 3]);
     let length = rng.pick(&[65_535, 65_536, input.len() as u32]);
     input[1..5].copy_from_slice(&length.to_be_bytes());
     input[6] = 1;

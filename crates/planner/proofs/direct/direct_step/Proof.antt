@@ -1,9 +1,10 @@
-use native.Mathlib.Omega.{arith}
 use borrow.Author.Needs.{needs}
+use native.Mathlib.Omega.{arith}
 use Prim.Native.Nat.{_≤_, _-_}
+use Rattle.rules.proofs.Laws.Loads.{place-offset}
 use Rattle.rules.proofs.Laws.Targets.{rest-ready}
-use Rattle.planner.proofs.Laws.Turning.{Directing, directing-start, directing-light, directing-turn, directing-end, goal-low, goal-offset}
-use Rattle.planner.proofs.Laws.Joining.{sum-index, sum-offset, vm-low}
+use Rattle.planner.proofs.Laws.Turning.{Directing, directing-start, directing-light, directing-turn, directing-end}
+use Rattle.planner.proofs.Laws.Joining.{vm-low}
 use Rattle.planner.proofs.direct.direct_step.Statement.{statement}
 use Rattle.planner.proofs.direct.direct_step.Tie as tie
 use Rattle.planner.proofs.direct.direct_step.Reads as reads
@@ -11,6 +12,7 @@ use Rattle.planner.proofs.direct.direct_step.Lts as lts
 use Rattle.planner.proofs.direct.goal.Reads as goal-reads
 use Rattle.records.proofs.vm_count.Reads as vm-count-reads
 use Rattle.records.proofs.vm_target.Reads as vm-target-reads
+use Rattle.rules.proofs.wide.Reads as wide-reads
 use Rattle.rules.proofs.loads.Reads as loads-reads
 use Rattle.rules.proofs.tally.Tally.with.Reads as with-reads
 use Rattle.rules.proofs.need_of.Reads as need-of-reads
@@ -33,67 +35,45 @@ loop-holds c = search (needs, directing-start)
 vm-target-requires : tie.Need-vm-target-requires Inv-loop μ-loop
 vm-target-requires c κs = search needs
 
-cast-d : tie.Need-cast-d Inv-loop μ-loop
-cast-d c = search needs
+wide-requires : tie.Need-wide-requires Inv-loop μ-loop
+wide-requires c κs = search needs
 
 mul-here : tie.Need-mul-here Inv-loop μ-loop
-mul-here c = search (needs, sum-offset)
+mul-here c = search (needs, place-offset)
 
 array-copy-out-here : tie.Need-array-copy-out-here Inv-loop μ-loop
-array-copy-out-here c =
-    search (needs, sum-index)
+array-copy-out-here c = search needs
 
 goal-requires : tie.Need-goal-requires Inv-loop μ-loop
-goal-requires c κs =
-    let head = c .before .before .before .before in
+goal-requires c κs = let head = c .before .before .before .before .before in
     let pre = head .before .before .before .before .before .pre in
     (search needs, search needs, search needs, search needs, directing-light _ _ _ _ _ (head .loop .inv .1) (pre .0) (omega arith) _)
 
-cast-t : tie.Need-cast-t Inv-loop μ-loop
-cast-t c = search needs
+wide-requires-2 : tie.Need-wide-requires-2 Inv-loop μ-loop
+wide-requires-2 c κs = search needs
 
 mul-there : tie.Need-mul-there Inv-loop μ-loop
-mul-there c =
-    let sent = c in
-    let target = sent .before .before .before in
-    let head = target .before .before in
-    let pre = head .before .before .before .before .before .pre in
-    goal-offset _ _ _ _ _ _ _ (head .loop .inv .1) (pre .0) (omega arith) (target .vm-target .ensures .0) (target .vm-target .ensures .1) (sent .goal .ensures)
+mul-there c = search (needs, place-offset)
 
 array-copy-out-there : tie.Need-array-copy-out-there Inv-loop μ-loop
-array-copy-out-there c =
-    let sent = c in
-    let target = sent .before .before .before in
-    let head = target .before .before in
-    let pre = head .before .before .before .before .before .pre in
-    goal-low _ _ _ _ _ _ _ (head .loop .inv .1) (pre .0) (omega arith) (target .vm-target .ensures .0) (target .vm-target .ensures .1) (sent .goal .ensures)
+array-copy-out-there c = search needs
 
 need-of-requires : tie.Need-need-of-requires Inv-loop μ-loop
 need-of-requires c κs = search needs
 
 with-requires : tie.Need-with-requires Inv-loop μ-loop
-with-requires c κs =
-    let sent = c .before .before in
-    let head = sent .before .before .before .before .before in
+with-requires c κs = let index = c .before .before in
+    let sent = index .before in
+    let head = sent .before .before .before .before .before .before in
     let pre = head .before .before .before .before .before .pre in
-    let light = directing-light _ _ _ _ _ (head .loop .inv .1) (pre .0) (omega arith) (sent .goal .result) in
+    let light = directing-light _ _ _ _ _ (head .loop .inv .1) (pre .0) (omega arith) (index .wide2 .result) in
     (light .memory, light .cpu, c .need-of .ensures .memory-most, c .need-of .ensures .cpu-most)
 
 mul-sums : tie.Need-mul-sums Inv-loop μ-loop
-mul-sums c =
-    let sent = c .before .before .before in
-    let target = sent .before .before .before in
-    let head = target .before .before in
-    let pre = head .before .before .before .before .before .pre in
-    goal-offset _ _ _ _ _ _ _ (head .loop .inv .1) (pre .0) (omega arith) (target .vm-target .ensures .0) (target .vm-target .ensures .1) (sent .goal .ensures)
+mul-sums c = search (needs, place-offset)
 
 array-set-from-sums : tie.Need-array-set-from-sums Inv-loop μ-loop
-array-set-from-sums c =
-    let sent = c .before .before .before in
-    let target = sent .before .before .before in
-    let head = target .before .before in
-    let pre = head .before .before .before .before .before .pre in
-    goal-low _ _ _ _ _ _ _ (head .loop .inv .1) (pre .0) (omega arith) (target .vm-target .ensures .0) (target .vm-target .ensures .1) (sent .goal .ensures)
+array-set-from-sums c = search needs
 
 array-write-dests : tie.Need-array-write-dests Inv-loop μ-loop
 array-write-dests c = search (needs, vm-low)
@@ -105,14 +85,15 @@ loop-less : tie.Need-loop-less Inv-loop μ-loop
 loop-less c = search needs
 
 loop-again : tie.Need-loop-again Inv-loop μ-loop
-loop-again c =
-    let need = c .before in
-    let sent = need .before .before in
-    let target = sent .before .before .before in
+loop-again c = let need = c .before in
+    let index = need .before .before in
+    let sent = index .before in
+    let here = sent .before .before .before in
+    let target = here .before in
     let head = target .before .before in
     let pre = head .before .before .before .before .before .pre in (
       omega arith,
-      directing-turn _ _ _ _ _ _ _ (head .loop .inv .1) (pre .0) (omega arith) (target .vm-target .ensures .0) (target .vm-target .ensures .1) (sent .goal .ensures) _ _
+      directing-turn _ _ _ _ _ _ _ _ _ (head .loop .inv .1) (pre .0) (omega (arith, target .before .loop-test .taken, head .before .before .before .vm-count .ensures .0)) (target .vm-target .ensures .0) (here .wide .ensures .0) (sent .goal .ensures) (index .wide2 .ensures .0) (index .wide2 .ensures .1) _ _
           (need .need-of .ensures) (c .with .ensures),
     )
 
@@ -129,11 +110,11 @@ direct-step-spec =
     loads-requires
     loop-holds
     vm-target-requires
-    cast-d
+    wide-requires
     mul-here
     array-copy-out-here
     goal-requires
-    cast-t
+    wide-requires-2
     mul-there
     array-copy-out-there
     need-of-requires

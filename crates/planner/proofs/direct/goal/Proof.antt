@@ -1,3 +1,4 @@
+use Rattle.records.proofs.Laws.Cluster.{place-ok}
 use Rattle.planner.proofs.Laws.Joining.{goal-target, goal-none}
 use borrow.Author.Needs.{needs}
 use Rattle.planner.proofs.direct.goal.Statement.{statement}
@@ -14,7 +15,7 @@ cast-may-join : tie.Need-cast-may-join
 cast-may-join c = search needs
 
 may-join-requires : tie.Need-may-join-requires
-may-join-requires c κs = search needs
+may-join-requires c κs = search (needs, place-ok)
 
 returns : tie.Need-returns
 returns c = search (needs, goal-target)

@@ -1,5 +1,5 @@
 use borrow.Author.Tests.{not-true, not-false}
-use Rattle.planner.proofs.Laws.Joining.{vm-low, row-offset, mark-offset, mark-index, node-low, join-stays, join-kept, join-full, join-met}
+use Rattle.planner.proofs.Laws.Joining.{vm-low, row-offset, mark-offset, mark-index, place-node-there, join-stays, join-off, join-kept, join-full, join-met}
 use borrow.Author.Needs.{needs}
 use Rattle.planner.proofs.join.may_join.Statement.{statement}
 use Rattle.planner.proofs.join.may_join.Tie as tie
@@ -7,49 +7,53 @@ use Rattle.planner.proofs.join.may_join.Reads as reads
 use Rattle.planner.proofs.join.may_join.Lts as lts
 use Rattle.planner.proofs.join.fits_with.Reads as fits-with-reads
 use Rattle.planner.proofs.mates.meets.Reads as meets-reads
-use Rattle.rules.proofs.node_at.Reads as node-at-reads
+use Rattle.rules.proofs.place_at.Reads as place-at-reads
 
-node-at-requires : tie.Need-node-at-requires
-node-at-requires c κs = search (needs, vm-low)
+place-at-requires : tie.Need-place-at-requires
+place-at-requires c κs = search (needs, vm-low)
 
 returns : tie.Need-returns
 returns c = search (needs, join-stays)
 
-mul-if2 : tie.Need-mul-if2
-mul-if2 c = search (needs, row-offset)
-
-add-if2 : tie.Need-add-if2
-add-if2 c = search (needs, mark-offset)
-
-element-copy-out-if2 : tie.Need-element-copy-out-if2
-element-copy-out-if2 c = search (needs, mark-index)
-
 returns-2 : tie.Need-returns-2
-returns-2 c = search (needs, join-kept)
+returns-2 c = search (needs, join-off)
 
-fits-with-requires : tie.Need-fits-with-requires
-fits-with-requires c κs = search needs
+mul-if3 : tie.Need-mul-if3
+mul-if3 c = search (needs, row-offset)
+
+add-if3 : tie.Need-add-if3
+add-if3 c = search (needs, mark-offset, place-node-there)
+
+element-copy-out-if3 : tie.Need-element-copy-out-if3
+element-copy-out-if3 c = search (needs, mark-index, place-node-there)
 
 returns-3 : tie.Need-returns-3
-returns-3 c = search (needs, not-true, join-full)
+returns-3 c = search (needs, join-kept, place-node-there)
 
-meets-requires : tie.Need-meets-requires
-meets-requires c κs = search (needs, node-low)
+fits-with-requires : tie.Need-fits-with-requires
+fits-with-requires c κs = search (needs, place-node-there)
 
 returns-4 : tie.Need-returns-4
-returns-4 c = search (needs, not-false, join-met)
+returns-4 c = search (needs, not-true, join-full, place-node-there)
+
+meets-requires : tie.Need-meets-requires
+meets-requires c κs = search needs
+
+returns-5 : tie.Need-returns-5
+returns-5 c = search (needs, not-false, join-met, place-node-there)
 
 pub may-join-spec : {M : Type 1} → statement M
 may-join-spec =
     tie.close
     (tie.spec
-    node-at-requires
+    place-at-requires
     returns
-    mul-if2
-    add-if2
-    element-copy-out-if2
     returns-2
-    fits-with-requires
+    mul-if3
+    add-if3
+    element-copy-out-if3
     returns-3
+    fits-with-requires
+    returns-4
     meets-requires
-    returns-4)
+    returns-5)

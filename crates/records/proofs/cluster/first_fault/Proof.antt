@@ -12,6 +12,7 @@ use Rattle.records.proofs.cluster.parts_sound.Reads as parts-sound-read
 use Rattle.records.proofs.cluster.vms_sound.Reads as vms-sound-reads
 use Rattle.records.proofs.header.counts_within.Reads as counts-within-reads
 use Rattle.records.proofs.header.length_wrong.Reads as length-wrong-reads
+use Rattle.records.proofs.header.version_known.Reads as version-known-reads
 
 returns : tie.Need-returns
 returns c = search (needs, fault-short)
@@ -19,20 +20,23 @@ returns c = search (needs, fault-short)
 byte-requires : tie.Need-byte-requires
 byte-requires c κs = search needs
 
+version-known-requires : tie.Need-version-known-requires
+version-known-requires c κs = search needs
+
 returns-2 : tie.Need-returns-2
-returns-2 c = search (needs, fault-version)
+returns-2 c = search (needs, fault-version, not-true)
 
 length-wrong-requires : tie.Need-length-wrong-requires
 length-wrong-requires c κs = search needs
 
 returns-3 : tie.Need-returns-3
-returns-3 c = search (needs, fault-length)
+returns-3 c = search (needs, fault-length, not-false)
 
 counts-within-requires : tie.Need-counts-within-requires
 counts-within-requires c κs = search needs
 
 returns-4 : tie.Need-returns-4
-returns-4 c = search (needs, fault-counts, not-true)
+returns-4 c = search (needs, fault-counts, not-true, not-false)
 
 filled-requires : tie.Need-filled-requires
 filled-requires c κs = search needs
@@ -67,6 +71,7 @@ first-fault-spec =
     (tie.spec
     returns
     byte-requires
+    version-known-requires
     returns-2
     length-wrong-requires
     returns-3

@@ -5,6 +5,7 @@ use Rattle.records.proofs.cluster.vms_sound.Tie as tie
 use Rattle.records.proofs.cluster.vms_sound.Reads as reads
 use Rattle.records.proofs.cluster.vms_sound.Lts as lts
 use Rattle.records.proofs.cluster.vms_start.Reads as vms-start-reads
+use Rattle.records.proofs.header.knows_nowhere.Reads as knows-nowhere-reads
 use Rattle.records.proofs.header.nodes.Reads as nodes-reads
 use Rattle.records.proofs.header.vms.Reads as vms-reads
 use Rattle.records.proofs.rows.rows_sound.Reads as rows-sound-reads
@@ -18,6 +19,9 @@ vms-requires c κs = search needs
 nodes-requires : tie.Need-nodes-requires
 nodes-requires c κs = search needs
 
+knows-nowhere-requires : tie.Need-knows-nowhere-requires
+knows-nowhere-requires c κs = search needs
+
 rows-sound-requires : tie.Need-rows-sound-requires
 rows-sound-requires c κs = search needs
 
@@ -27,4 +31,4 @@ returns c = cc
 
 pub vms-sound-spec : {M : Type 1} → statement M
 vms-sound-spec =
-    tie.close (tie.spec vms-start-requires vms-requires nodes-requires rows-sound-requires returns)
+    tie.close (tie.spec vms-start-requires vms-requires nodes-requires knows-nowhere-requires rows-sound-requires returns)

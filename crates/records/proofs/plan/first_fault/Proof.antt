@@ -8,7 +8,7 @@ use Rattle.records.proofs.plan.first_fault.Lts as lts
 use Rattle.records.proofs.bytes.be32.Reads as be32-reads
 use Rattle.records.proofs.bytes.byte.Reads as byte-reads
 use Rattle.records.proofs.plan.shape_sound.Reads as shape-sound-reads
-use Rattle.records.proofs.plan.version_known.Reads as version-known-reads
+use Rattle.records.proofs.header.version_known.Reads as version-known-reads
 
 returns : tie.Need-returns
 returns c = search (needs, plan-empty)

@@ -1,4 +1,4 @@
-use Rattle.records.proofs.Laws.Cluster.{vm-current-is, current-below}
+use Rattle.records.proofs.Laws.Cluster.{vm-current-is, current-place}
 use borrow.Author.Needs.{needs}
 use Rattle.records.proofs.room.vm_current.Statement.{statement}
 use Rattle.records.proofs.room.vm_current.Tie as tie
@@ -17,7 +17,7 @@ byte-requires : tie.Need-byte-requires
 byte-requires c κs = search needs
 
 returns : tie.Need-returns
-returns c = search (needs, vm-current-is, current-below)
+returns c = search (needs, vm-current-is, current-place)
 
 pub vm-current-spec : {M : Type 1} → statement M
 vm-current-spec = tie.close (tie.spec vm-row-requires add-byte byte-requires returns)

@@ -1,4 +1,4 @@
-use Rattle.records.proofs.Laws.Cluster.{vm-target-is, target-below}
+use Rattle.records.proofs.Laws.Cluster.{vm-target-is, target-place}
 use borrow.Author.Needs.{needs}
 use Rattle.records.proofs.room.vm_target.Statement.{statement}
 use Rattle.records.proofs.room.vm_target.Tie as tie
@@ -17,7 +17,7 @@ byte-requires : tie.Need-byte-requires
 byte-requires c κs = search needs
 
 returns : tie.Need-returns
-returns c = search (needs, vm-target-is, target-below)
+returns c = search (needs, vm-target-is, target-place)
 
 pub vm-target-spec : {M : Type 1} → statement M
 vm-target-spec = tie.close (tie.spec vm-row-requires add-byte byte-requires returns)

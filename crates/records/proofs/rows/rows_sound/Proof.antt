@@ -13,10 +13,10 @@ use Rattle.records.proofs.rows.rows_sound.Lts as lts
 use Rattle.records.proofs.rows.row_sound.Reads as row-sound-reads
 
 abbrev Inv-loop : tie.InvT-loop
-Inv-loop s start count nodes at₀ left₀ at left = (at + left * 7 ≤ length s) × (all (vmOk nodes) (rows (vmRow s) 7 at left) ≡ all (vmOk nodes) (rows (vmRow s) 7 start count))
+Inv-loop s start count nodes known at₀ left₀ at left = (at + left * 7 ≤ length s) × (all (vmOk known nodes) (rows (vmRow s) 7 at left) ≡ all (vmOk known nodes) (rows (vmRow s) 7 start count))
 
 abbrev μ-loop : tie.MeasureT-loop
-μ-loop s start count nodes at₀ left₀ at left = left
+μ-loop s start count nodes known at₀ left₀ at left = left
 
 loop-holds : tie.Need-loop-holds Inv-loop μ-loop
 loop-holds c = search needs

@@ -11,9 +11,8 @@ use Rattle.rules.proofs.cost.step_max.Tie as tie
 use Rattle.rules.proofs.cost.step_max.Reads as reads
 use Rattle.rules.proofs.cost.step_max.Lts as lts
 use Rattle.records.proofs.move_count.Reads as move-count-reads
-use Rattle.records.proofs.move_vm.Reads as move-vm-reads
 use Rattle.rules.proofs.cost.larger.Reads as larger-reads
-use Rattle.rules.proofs.cost.memory_of.Reads as memory-of-reads
+use Rattle.rules.proofs.cost.move_memory.Reads as move-memory-reads
 
 abbrev Inv-loop : tie.InvT-loop
 Inv-loop cluster plan at i₀ most₀ i most = (i ≤ moveCount plan at) × (most < 2 ^ 24) × (most ≡ stepCost (roomOf cluster) (drop i (stepAt plan at)))
@@ -30,14 +29,8 @@ loop-holds c = search (needs, max-start)
 sub-i : tie.Need-sub-i Inv-loop μ-loop
 sub-i c = search needs
 
-move-vm-requires : tie.Need-move-vm-requires Inv-loop μ-loop
-move-vm-requires c κs = search needs
-
-cast-memory-of : tie.Need-cast-memory-of Inv-loop μ-loop
-cast-memory-of c = search needs
-
-memory-of-requires : tie.Need-memory-of-requires Inv-loop μ-loop
-memory-of-requires c κs = search needs
+move-memory-requires : tie.Need-move-memory-requires Inv-loop μ-loop
+move-memory-requires c κs = search needs
 
 larger-requires : tie.Need-larger-requires Inv-loop μ-loop
 larger-requires c κs = search needs
@@ -60,9 +53,7 @@ step-max-spec =
     move-count-requires
     loop-holds
     sub-i
-    move-vm-requires
-    cast-memory-of
-    memory-of-requires
+    move-memory-requires
     larger-requires
     loop-less
     loop-again

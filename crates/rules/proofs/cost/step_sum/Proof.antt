@@ -11,8 +11,7 @@ use Rattle.rules.proofs.cost.step_sum.Tie as tie
 use Rattle.rules.proofs.cost.step_sum.Reads as reads
 use Rattle.rules.proofs.cost.step_sum.Lts as lts
 use Rattle.records.proofs.move_count.Reads as move-count-reads
-use Rattle.records.proofs.move_vm.Reads as move-vm-reads
-use Rattle.rules.proofs.cost.memory_of.Reads as memory-of-reads
+use Rattle.rules.proofs.cost.move_memory.Reads as move-memory-reads
 
 abbrev Inv-loop : tie.InvT-loop
 Inv-loop cluster plan at before i₀ sum₀ i sum = (i ≤ moveCount plan at) × (sum + i * 8589934080 ≤ moveCount plan at * 8589934080) × (sum ≡ movesCost (roomOf cluster) before (drop i (stepAt plan at)))
@@ -29,14 +28,8 @@ loop-holds c = search (needs, sum-start)
 sub-i : tie.Need-sub-i Inv-loop μ-loop
 sub-i c = search needs
 
-move-vm-requires : tie.Need-move-vm-requires Inv-loop μ-loop
-move-vm-requires c κs = search needs
-
-cast-memory-of : tie.Need-cast-memory-of Inv-loop μ-loop
-cast-memory-of c = search needs
-
-memory-of-requires : tie.Need-memory-of-requires Inv-loop μ-loop
-memory-of-requires c κs = search needs
+move-memory-requires : tie.Need-move-memory-requires Inv-loop μ-loop
+move-memory-requires c κs = search needs
 
 add-sum : tie.Need-add-sum Inv-loop μ-loop
 add-sum c = search needs
@@ -62,9 +55,7 @@ step-sum-spec =
     move-count-requires
     loop-holds
     sub-i
-    move-vm-requires
-    cast-memory-of
-    memory-of-requires
+    move-memory-requires
     add-sum
     add-sum-2
     loop-less

@@ -1,18 +1,18 @@
 use borrow.Author.Needs.{needs}
 use Prim.Native.Nat.{_≤_, _-_}
 use mathlib.Core.Path.{_≡_}
-use lib.ListN.{length, drop, replicate}
+use lib.ListN.{length, drop}
 use Rattle.rules.specs.Inner.{startMarks}
-use Rattle.rules.proofs.Laws.Mates.{node-index, starts-more, starts-end}
+use Rattle.rules.proofs.Laws.Mates.{starts-more, starts-end}
 use Rattle.rules.proofs.spread.starts.Statement.{statement}
 use Rattle.rules.proofs.spread.starts.Tie as tie
 use Rattle.rules.proofs.spread.starts.Reads as reads
 use Rattle.rules.proofs.spread.starts.Lts as lts
 use Rattle.rules.proofs.places.entry.Reads as entry-reads
-use Rattle.rules.proofs.places.node_at.Reads as node-at-reads
+use Rattle.rules.proofs.places.place_at.Reads as place-at-reads
 
 abbrev Inv-loop : tie.InvT-loop
-Inv-loop vms places marks₀ i₀ marks i = (i ≤ length vms) × (startMarks marks places (drop i vms) ≡ startMarks (replicate 65 0) places vms)
+Inv-loop vms places marks₀ i₀ marks i = (i ≤ length vms) × (startMarks marks places (drop i vms) ≡ startMarks marks₀ places vms)
 
 abbrev μ-loop : tie.MeasureT-loop
 μ-loop vms places marks₀ i₀ marks i = length vms - i
@@ -23,11 +23,11 @@ loop-holds c = search needs
 entry-requires : tie.Need-entry-requires Inv-loop μ-loop
 entry-requires c κs = search needs
 
-node-at-requires : tie.Need-node-at-requires Inv-loop μ-loop
-node-at-requires c κs = search needs
+place-at-requires : tie.Need-place-at-requires Inv-loop μ-loop
+place-at-requires c κs = search needs
 
-array-write-marks : tie.Need-array-write-marks Inv-loop μ-loop
-array-write-marks c = search (needs, node-index)
+element-write-marks : tie.Need-element-write-marks Inv-loop μ-loop
+element-write-marks c = search needs
 
 add-i : tie.Need-add-i Inv-loop μ-loop
 add-i c = search needs
@@ -49,8 +49,8 @@ starts-spec =
     μ-loop
     loop-holds
     entry-requires
-    node-at-requires
-    array-write-marks
+    place-at-requires
+    element-write-marks
     add-i
     loop-less
     loop-again

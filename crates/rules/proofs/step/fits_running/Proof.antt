@@ -6,7 +6,8 @@ use borrow.Author.Tests.{not-true, not-false}
 use Rattle.records.specs.Room.{roomOf}
 use Rattle.records.specs.Plan.{stepAt}
 use Rattle.rules.specs.Inner.{fitsIn}
-use Rattle.rules.proofs.Laws.Fit.{aimed-below, aimed-index, aimed-offset, fits-not, fits-more, fits-end}
+use Rattle.rules.proofs.Laws.Fit.{aimed-below, fits-off, fits-not, fits-more, fits-end}
+use mathlib.Core.Logic.{⊎-elim}
 use Rattle.rules.proofs.step.fits_running.Statement.{statement}
 use Rattle.rules.proofs.step.fits_running.Tie as tie
 use Rattle.rules.proofs.step.fits_running.Reads as reads
@@ -34,10 +35,10 @@ cast-d : tie.Need-cast-d Inv-loop μ-loop
 cast-d c = search needs
 
 mul-t : tie.Need-mul-t Inv-loop μ-loop
-mul-t c = search (needs, aimed-offset)
+mul-t c = search needs
 
 array-copy-out-t : tie.Need-array-copy-out-t Inv-loop μ-loop
-array-copy-out-t c = search (needs, aimed-index)
+array-copy-out-t c = search needs
 
 within-node-requires : tie.Need-within-node-requires Inv-loop μ-loop
 within-node-requires c κs = search (needs, aimed-below)
@@ -52,7 +53,7 @@ loop-less : tie.Need-loop-less Inv-loop μ-loop
 loop-less c = search needs
 
 loop-again : tie.Need-loop-again Inv-loop μ-loop
-loop-again c = search (needs, fits-more, not-false)
+loop-again c = ⊎-elim (λ u. search (needs, fits-more, not-false)) (λ u. search (needs, fits-off)) (c .if1 .came)
 
 returns-2 : tie.Need-returns-2 Inv-loop μ-loop
 returns-2 c = search (needs, fits-end)

@@ -1,5 +1,5 @@
 use borrow.Author.Needs.{needs}
-use Rattle.rules.proofs.Laws.Loads.{loaded-start, loaded-more, loaded-end, place-index, place-offset, dest-index, dest-offset, light-memory, light-cpu, second-memory, second-cpu}
+use Rattle.rules.proofs.Laws.Loads.{loaded-start, loaded-more, loaded-end, place-offset, light-memory, light-cpu, second-memory, second-cpu}
 use native.Mathlib.Omega.{arith}
 use Prim.Native.Nat.{_≤_}
 use Rattle.records.specs.Room.{vmCount}
@@ -9,7 +9,7 @@ use Rattle.rules.proofs.step.loads.Tie as tie
 use Rattle.rules.proofs.step.loads.Reads as reads
 use Rattle.rules.proofs.step.loads.Lts as lts
 use Rattle.records.proofs.vm_count.Reads as vm-count-reads
-use Rattle.rules.proofs.places.node_at.Reads as node-at-reads
+use Rattle.rules.proofs.places.place_at.Reads as place-at-reads
 use Rattle.rules.proofs.tally.Tally.with.Reads as with-reads
 use Rattle.rules.proofs.tally.need_of.Reads as need-of-reads
 
@@ -31,32 +31,32 @@ sub-v c = search needs
 need-of-requires : tie.Need-need-of-requires Inv-loop μ-loop
 need-of-requires c κs = search needs
 
-node-at-requires : tie.Need-node-at-requires Inv-loop μ-loop
-node-at-requires c κs = search needs
+place-at-requires : tie.Need-place-at-requires Inv-loop μ-loop
+place-at-requires c κs = search needs
 
 mul-there : tie.Need-mul-there Inv-loop μ-loop
-mul-there c = search (needs, dest-offset)
+mul-there c = search (needs, place-offset)
 
 array-copy-out-there : tie.Need-array-copy-out-there Inv-loop μ-loop
-array-copy-out-there c = search (needs, dest-index)
+array-copy-out-there c = search needs
 
 with-requires : tie.Need-with-requires Inv-loop μ-loop
 with-requires c κs = search (needs, light-memory, light-cpu)
 
 mul-sums : tie.Need-mul-sums Inv-loop μ-loop
-mul-sums c = search (needs, dest-offset)
+mul-sums c = search (needs, place-offset)
 
 array-set-from-sums : tie.Need-array-set-from-sums Inv-loop μ-loop
-array-set-from-sums c = search (needs, dest-index)
+array-set-from-sums c = search needs
 
-node-at-requires-2 : tie.Need-node-at-requires-2 Inv-loop μ-loop
-node-at-requires-2 c κs = search needs
+place-at-requires-2 : tie.Need-place-at-requires-2 Inv-loop μ-loop
+place-at-requires-2 c κs = search needs
 
 mul-here : tie.Need-mul-here Inv-loop μ-loop
 mul-here c = search (needs, place-offset)
 
 array-copy-out-here : tie.Need-array-copy-out-here Inv-loop μ-loop
-array-copy-out-here c = search (needs, place-index)
+array-copy-out-here c = search needs
 
 with-requires-2 : tie.Need-with-requires-2 Inv-loop μ-loop
 with-requires-2 c κs = search (needs, second-memory, second-cpu)
@@ -65,16 +65,13 @@ mul-sums-2 : tie.Need-mul-sums-2 Inv-loop μ-loop
 mul-sums-2 c = search (needs, place-offset)
 
 array-set-from-sums-2 : tie.Need-array-set-from-sums-2 Inv-loop μ-loop
-array-set-from-sums-2 c = search (needs, place-index)
+array-set-from-sums-2 c = search needs
 
 loop-less : tie.Need-loop-less Inv-loop μ-loop
 loop-less c = search needs
 
 loop-again : tie.Need-loop-again Inv-loop μ-loop
 loop-again c = (omega arith, search (needs, loaded-more))
-
-array-set-from-sums-3 : tie.Need-array-set-from-sums-3 Inv-loop μ-loop
-array-set-from-sums-3 c = search needs
 
 returns : tie.Need-returns Inv-loop μ-loop
 returns c = search (needs, loaded-end)
@@ -89,13 +86,13 @@ loads-spec =
     loop-holds
     sub-v
     need-of-requires
-    node-at-requires
+    place-at-requires
     mul-there
     array-copy-out-there
     with-requires
     mul-sums
     array-set-from-sums
-    node-at-requires-2
+    place-at-requires-2
     mul-here
     array-copy-out-here
     with-requires-2
@@ -103,5 +100,4 @@ loads-spec =
     array-set-from-sums-2
     loop-less
     loop-again
-    array-set-from-sums-3
     returns)

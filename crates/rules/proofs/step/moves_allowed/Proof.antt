@@ -5,7 +5,8 @@ use lib.ListN.{drop}
 use Rattle.records.specs.Room.{roomOf}
 use Rattle.records.specs.Plan.{stepAt}
 use Rattle.rules.specs.Rules.{permitted}
-use Rattle.rules.proofs.Laws.Check.{move-index, allowed-not, allowed-more, allowed-end}
+use Rattle.rules.proofs.Laws.Check.{move-index, allowed-off, allowed-not, allowed-more, allowed-end}
+use mathlib.Core.Logic.{⊎-elim}
 use Rattle.rules.proofs.step.moves_allowed.Statement.{statement}
 use Rattle.rules.proofs.step.moves_allowed.Tie as tie
 use Rattle.rules.proofs.step.moves_allowed.Reads as reads
@@ -38,14 +39,14 @@ move-to-requires c κs = search needs
 cast-d : tie.Need-cast-d Inv-loop μ-loop
 cast-d c = search needs
 
-mul-if1 : tie.Need-mul-if1 Inv-loop μ-loop
-mul-if1 c = search needs
+mul-if2 : tie.Need-mul-if2 Inv-loop μ-loop
+mul-if2 c = search needs
 
-add-if1 : tie.Need-add-if1 Inv-loop μ-loop
-add-if1 c = search needs
+add-if2 : tie.Need-add-if2 Inv-loop μ-loop
+add-if2 c = search needs
 
-element-copy-out-if1 : tie.Need-element-copy-out-if1 Inv-loop μ-loop
-element-copy-out-if1 c = search (needs, move-index)
+element-copy-out-if2 : tie.Need-element-copy-out-if2 Inv-loop μ-loop
+element-copy-out-if2 c = search (needs, move-index)
 
 returns : tie.Need-returns Inv-loop μ-loop
 returns c = search (needs, allowed-not)
@@ -57,7 +58,7 @@ loop-less : tie.Need-loop-less Inv-loop μ-loop
 loop-less c = search needs
 
 loop-again : tie.Need-loop-again Inv-loop μ-loop
-loop-again c = search (needs, allowed-more)
+loop-again c = ⊎-elim (λ u. search (needs, allowed-more)) (λ u. search (needs, allowed-off)) (c .if1 .came)
 
 returns-2 : tie.Need-returns-2 Inv-loop μ-loop
 returns-2 c = search (needs, allowed-end)
@@ -74,9 +75,9 @@ moves-allowed-spec =
     cast-v
     move-to-requires
     cast-d
-    mul-if1
-    add-if1
-    element-copy-out-if1
+    mul-if2
+    add-if2
+    element-copy-out-if2
     returns
     add-i
     loop-less

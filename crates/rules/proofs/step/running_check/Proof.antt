@@ -1,5 +1,5 @@
 use borrow.Author.Tests.{not-true, not-false}
-use Rattle.rules.proofs.Laws.Check.{held-whole, held-fits, held-aimed, held-nodes, held-ready, held-dests, running-misfit, running-mate, running-sound}
+use Rattle.rules.proofs.Laws.Check.{held-whole, held-fits, held-aimed, held-ready, running-misfit, running-mate, running-sound}
 use borrow.Author.Needs.{needs}
 use Rattle.rules.proofs.step.running_check.Statement.{statement}
 use Rattle.rules.proofs.step.running_check.Tie as tie
@@ -23,7 +23,7 @@ returns : tie.Need-returns
 returns c = search (needs, running-misfit, not-true)
 
 mates-unmet-requires : tie.Need-mates-unmet-requires
-mates-unmet-requires c κs = search (needs, held-nodes, held-dests)
+mates-unmet-requires c κs = search (needs, held-whole)
 
 returns-2 : tie.Need-returns-2
 returns-2 c = search (needs, running-mate, not-true, not-false)

@@ -11,7 +11,7 @@ use Rattle.rules.proofs.wanted.at_home.Reads as reads
 use Rattle.rules.proofs.wanted.at_home.Lts as lts
 use Rattle.records.proofs.vm_count.Reads as vm-count-reads
 use Rattle.records.proofs.vm_target.Reads as vm-target-reads
-use Rattle.rules.proofs.places.node_at.Reads as node-at-reads
+use Rattle.rules.proofs.places.place_at.Reads as place-at-reads
 
 abbrev Inv-loop : tie.InvT-loop
 Inv-loop cluster places n v₀ v = (v ≤ n) × (homeFrom (roomOf cluster) (held cluster places) v (n - v) ≡ home (roomOf cluster) (held cluster places))
@@ -25,8 +25,8 @@ vm-count-requires c κs = search needs
 loop-holds : tie.Need-loop-holds Inv-loop μ-loop
 loop-holds c = search (needs, home-start)
 
-node-at-requires : tie.Need-node-at-requires Inv-loop μ-loop
-node-at-requires c κs = search needs
+place-at-requires : tie.Need-place-at-requires Inv-loop μ-loop
+place-at-requires c κs = search needs
 
 vm-target-requires : tie.Need-vm-target-requires Inv-loop μ-loop
 vm-target-requires c κs = search needs
@@ -57,7 +57,7 @@ at-home-spec =
     μ-loop
     vm-count-requires
     loop-holds
-    node-at-requires
+    place-at-requires
     vm-target-requires
     cast-t
     returns

@@ -3,13 +3,14 @@ use Prim.Native.Nat.{_≤_, _-_}
 use mathlib.Core.Path.{_≡_}
 use lib.ListN.{length, drop}
 use Rattle.rules.specs.Inner.{clearOf}
-use Rattle.rules.proofs.Laws.Targets.{low-index, clear-not, clear-more, clear-end}
+use Rattle.rules.proofs.Laws.Targets.{clear-off, clear-not, clear-more, clear-end}
+use mathlib.Core.Logic.{⊎-elim}
 use Rattle.rules.proofs.wanted.list_clear.Statement.{statement}
 use Rattle.rules.proofs.wanted.list_clear.Tie as tie
 use Rattle.rules.proofs.wanted.list_clear.Reads as reads
 use Rattle.rules.proofs.wanted.list_clear.Lts as lts
 use Rattle.rules.proofs.places.entry.Reads as entry-reads
-use Rattle.rules.proofs.places.node_at.Reads as node-at-reads
+use Rattle.rules.proofs.places.place_at.Reads as place-at-reads
 
 abbrev Inv-loop : tie.InvT-loop
 Inv-loop vms stop places i₀ i = (i ≤ length vms) × (clearOf stop places (drop i vms) ≡ clearOf stop places vms)
@@ -23,11 +24,11 @@ loop-holds c = search needs
 entry-requires : tie.Need-entry-requires Inv-loop μ-loop
 entry-requires c κs = search needs
 
-node-at-requires : tie.Need-node-at-requires Inv-loop μ-loop
-node-at-requires c κs = search needs
+place-at-requires : tie.Need-place-at-requires Inv-loop μ-loop
+place-at-requires c κs = search needs
 
-element-copy-out-if1 : tie.Need-element-copy-out-if1 Inv-loop μ-loop
-element-copy-out-if1 c = search (needs, low-index)
+element-copy-out-if2 : tie.Need-element-copy-out-if2 Inv-loop μ-loop
+element-copy-out-if2 c = search needs
 
 returns : tie.Need-returns Inv-loop μ-loop
 returns c = search (needs, clear-not)
@@ -39,7 +40,7 @@ loop-less : tie.Need-loop-less Inv-loop μ-loop
 loop-less c = search needs
 
 loop-again : tie.Need-loop-again Inv-loop μ-loop
-loop-again c = search (needs, clear-more)
+loop-again c = ⊎-elim (λ u. search (needs, clear-more)) (λ u. search (needs, clear-off)) (c .if1 .came)
 
 returns-2 : tie.Need-returns-2 Inv-loop μ-loop
 returns-2 c = search (needs, clear-end)
@@ -52,8 +53,8 @@ list-clear-spec =
     μ-loop
     loop-holds
     entry-requires
-    node-at-requires
-    element-copy-out-if1
+    place-at-requires
+    element-copy-out-if2
     returns
     add-i
     loop-less

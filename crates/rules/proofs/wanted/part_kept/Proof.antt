@@ -1,5 +1,5 @@
 use Rattle.rules.proofs.Laws.Allow.{below-same}
-use Rattle.rules.proofs.Laws.Targets.{low-nodes, kept-ban, kept-fence, kept-spread, kept-empty, kept-groups, kind-latency}
+use Rattle.rules.proofs.Laws.Targets.{kept-ban, kept-fence, kept-spread, kept-down, kept-groups, kind-latency}
 use borrow.Author.Needs.{needs}
 use Rattle.rules.proofs.wanted.part_kept.Statement.{statement}
 use Rattle.rules.proofs.wanted.part_kept.Tie as tie
@@ -47,13 +47,16 @@ enum-told-3 : tie.Need-enum-told-3
 enum-told-3 c = search needs
 
 arrive-apart-requires : tie.Need-arrive-apart-requires
-arrive-apart-requires c κs = search (needs, low-nodes)
+arrive-apart-requires c κs = search needs
 
 enum-told-4 : tie.Need-enum-told-4
 enum-told-4 c = search needs
 
+list-clear-requires-3 : tie.Need-list-clear-requires-3
+list-clear-requires-3 c κs = search needs
+
 returns : tie.Need-returns
-returns c = search (needs, kept-empty)
+returns c = search (needs, kept-down)
 
 groups-hold-requires : tie.Need-groups-hold-requires
 groups-hold-requires c κs = search (needs, kind-latency)
@@ -87,6 +90,7 @@ part-kept-spec =
     enum-told-3
     arrive-apart-requires
     enum-told-4
+    list-clear-requires-3
     returns
     groups-hold-requires
     returns-2

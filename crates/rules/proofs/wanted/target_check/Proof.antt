@@ -1,8 +1,6 @@
 use borrow.Author.Tests.{not-true, not-false}
-use Rattle.rules.proofs.Laws.Targets.{placed-low}
 use Rattle.rules.proofs.Laws.Kept.{target-overfull, target-broken, target-good}
 use borrow.Author.Needs.{needs}
-use Rattle.rules.proofs.Laws.Places.{target-placed}
 use Rattle.rules.proofs.wanted.target_check.Statement.{statement}
 use Rattle.rules.proofs.wanted.target_check.Tie as tie
 use Rattle.rules.proofs.wanted.target_check.Reads as reads
@@ -15,19 +13,19 @@ target-places-requires : tie.Need-target-places-requires
 target-places-requires c κs = search needs
 
 places-fit-requires : tie.Need-places-fit-requires
-places-fit-requires c κs = search (needs, target-placed)
+places-fit-requires c κs = search needs
 
 returns : tie.Need-returns
 returns c = search (needs, target-overfull, not-true)
 
 all-kept-requires : tie.Need-all-kept-requires
-all-kept-requires c κs = search (needs, placed-low, target-placed)
+all-kept-requires c κs = search needs
 
 returns-2 : tie.Need-returns-2
-returns-2 c = search (needs, target-broken, not-true, not-false, placed-low, target-placed)
+returns-2 c = search (needs, target-broken, not-true, not-false)
 
 returns-3 : tie.Need-returns-3
-returns-3 c = search (needs, target-good, not-false, placed-low, target-placed)
+returns-3 c = search (needs, target-good, not-false)
 
 pub target-check-spec : {M : Type 1} → statement M
 target-check-spec =
