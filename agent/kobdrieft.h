@@ -11,7 +11,7 @@
  *
  * Threads. There is no state: any number of threads may call at once, each with an `out` of its own.
  *
- * Stack. Measured on full clusters, x86-64: `kobdrieft_check` takes 34,303 bytes (512 steps), `kobdrieft_build`
+ * Stack. Measured on full clusters, x86-64: `kobdrieft_check` takes 34,319 bytes (512 steps), `kobdrieft_build`
  * 122,287 (1 step) and 122,199 (500 steps): it does not grow with the steps. Give a thread KOB_CHECK_STACK or
  * KOB_BUILD_STACK, and what it needs itself.
  *
@@ -24,14 +24,15 @@
 #include <stdint.h>
 
 /* Grows whenever this interface changes, or what its calls answer. */
-#define KOBDRIEFT_VERSION 4
+#define KOBDRIEFT_VERSION 5
 
 #ifdef __cplusplus
 extern "C" {
 #endif
 
 /* The verdict on a plan record of version 1 or 2 for a cluster record of version 1 or 2. A plan of 0 bytes is
- * one of no steps, as a header with 0 steps is: do not lend a plan whose file could not be read. */
+ * one of no steps, as a header with 0 steps is: do not lend a plan whose file could not be read. Of a VM whose CPU
+ * is 0 only the memory is tested when it begins: it may enter a node that is over its CPU. */
 uint64_t kobdrieft_check(const uint8_t *cluster, size_t cluster_len, const uint8_t *plan, size_t plan_len);
 
 /* Plans for a cluster record. Of a plan and of blocked, the steps made stand as a plan record at the front

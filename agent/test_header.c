@@ -77,7 +77,7 @@ static void test_texts(void)
     expect(strstr(kob_fault_text(KOB_FAULT_ELSEWHERE), "source") != NULL, "text 27");
     expect(strcmp(kob_fault_text(256), "Unknown number.") == 0, "text of 256");
     expect(strcmp(kob_fault_text(~0u), "Unknown number.") == 0, "text of the largest number");
-    expect(KOBDRIEFT_VERSION == 4, "the interface's version");
+    expect(KOBDRIEFT_VERSION == 5, "the interface's version");
     group("texts");
 }
 
@@ -368,6 +368,44 @@ static void test_turnover(void)
     group("launches and shutdowns");
 }
 
+/* ---- idle VMs */
+
+/* A with memory 5 on each node, CPU 40 on node 1, where VM 1 takes 50, and this CPU for VM 0, which is to go there. */
+static void busy(uint8_t cluster[sizeof cluster_a], uint8_t cpu)
+{
+    memcpy(cluster, cluster_a, sizeof cluster_a);
+    cluster[13] = cluster[18] = cluster[23] = 5;
+    cluster[20] = 40;
+    cluster[30] = cpu;
+}
+
+/* The verdict on a plan for it that moves both VMs in one step. */
+static uint64_t verdict_on_busy(const uint8_t cluster[sizeof cluster_a])
+{
+    static const uint8_t both[] = {1, 0, 0, 0, 13, 0, 1, 0, 2, 0, 1, 1, 0};
+    return kob_check(cluster, sizeof cluster_a, both, sizeof both);
+}
+
+static void test_idle(void)
+{
+    uint8_t cluster[sizeof cluster_a];
+    uint8_t *out = filled(KOB_BUILD_BUFFER);
+    busy(cluster, 0);
+    expect(verdict_on_busy(cluster) == 5, "an idle VM enters a node over its CPU");
+    expect(kob_build(cluster, sizeof cluster, out, KOB_BUILD_BUFFER) == made(KOB_PLAN, 1, 2, 5), "planned so");
+    cluster[18] = 4;
+    expect(verdict_on_busy(cluster) == refused(17, 1), "but no node over its memory");
+    busy(cluster, 1);
+    expect(verdict_on_busy(cluster) == refused(17, 1), "a VM of CPU 1 does not enter");
+    expect(kob_build(cluster, sizeof cluster, out, KOB_BUILD_BUFFER) == made(KOB_PLAN, 2, 2, 7), "it waits a step");
+    busy(cluster, 0);
+    cluster[39] = 1; /* VM 1's target */
+    expect(verdict_on_busy(cluster) == refused(8, 0), "a target over its CPU");
+    expect(kob_build(cluster, sizeof cluster, out, KOB_BUILD_BUFFER) == refused(8, 0), "is not planned for");
+    free(out);
+    group("idle VMs");
+}
+
 /* ---- records that lie against inaccessible pages */
 
 static struct fenced cluster_fence, plan_fence;
@@ -509,6 +547,7 @@ int main(void)
     test_no_plan();
     test_cluster_a();
     test_turnover();
+    test_idle();
     test_pages();
     return status();
 }

@@ -206,12 +206,15 @@ pub fn edges() -> Vec<Edge> {
     shutdown_names(&mut edges);
     closed_nodes(&mut edges);
     fits(&mut edges);
+    idle_fits(&mut edges);
+    idle_beside_active(&mut edges);
     spreads(&mut edges);
     launches_and_shutdowns_fit(&mut edges);
     launches_and_shutdowns_meet(&mut edges);
     ends(&mut edges);
     ends_on_no_node(&mut edges);
     launches_and_shutdowns_planned(&mut edges);
+    idle_planned(&mut edges);
     edges.0
 }
 
@@ -510,6 +513,19 @@ fn target_sums(e: &mut Edges) {
     e.room("memory 1 on memory 0", &room(&[node(0, 9)], &[vm(1, 0, 0, 0)], &[]), 8);
     e.room("CPU 0 on CPU 0", &room(&[node(1, 0)], &[vm(1, 0, 0, 0)], &[]), 0);
     e.room("CPU 1 on CPU 0", &room(&[node(1, 0)], &[vm(1, 1, 0, 0)], &[]), 8);
+    // Node 0 has CPU 3 on it for good, and VM 1, which is idle, is wanted there.
+    let busy = |cpu| room(&[node(9, cpu), node(9, 9)], &[vm(1, 3, 0, 0), vm(1, 0, 1, 0)], &[]);
+    e.no_steps("CPU 0 wanted where CPU just fits", &cluster_bytes(&busy(3)), 19);
+    e.no_steps("CPU 0 wanted where CPU is over for good", &cluster_bytes(&busy(2)), 8);
+    let launched = |cpu| {
+        let mut room = Room { version: Version::Two, ..busy(cpu) };
+        room.vms[1].current = NOWHERE;
+        cluster_bytes(&room)
+    };
+    e.no_steps("CPU 0 to be launched where CPU just fits", &launched(3), 19);
+    e.no_steps("CPU 0 to be launched where CPU is over for good", &launched(2), 8);
+    let idle = room(&[node(1, 0), node(9, 0)], &[vm(1, 0, 0, 0), vm(1, 0, 1, 0)], &[]);
+    e.no_steps("CPU 0 wanted where memory is full", &cluster_bytes(&idle), 8);
     let wide = |count| room(&[node(16_777_215, 65_535)], &vec![vm(65_536, 256, 0, 0); count], &[]);
     e.room("255 large VMs on one node", &wide(255), 0);
     e.room("256 large VMs on one node, sums that wrap their fields", &wide(256), 8);
@@ -1257,16 +1273,6 @@ fn fits(e: &mut Edges) {
         None,
     );
     e.steps("the second still there", &pair, &[&[(0, 1)], &[(1, 1)]], at(2));
-
-    // Node 1 starts over its CPU with VMs 1 and 2.
-    let over = room(
-        &[node(9, 9), node(9, 5), node(9, 9)],
-        &[vm(1, 0, 0, 1), vm(1, 3, 1, 1), vm(1, 3, 1, 2)],
-        &[],
-    );
-    e.steps("CPU 0 onto a node over its CPU", &over, &[&[(0, 1)], &[(2, 2)]], at(1));
-    e.steps("beside the VM that leaves", &over, &[&[(0, 1), (2, 2)]], at(1));
-    e.steps("once it is within", &over, &[&[(2, 2)], &[(0, 1)]], None);
     let heap = room(
         &[node(1, 9), node(9, 9), node(9, 9)],
         &[vm(1, 1, 0, 0), vm(4, 1, 0, 1), vm(4, 1, 0, 2)],
@@ -1295,6 +1301,114 @@ fn fits(e: &mut Edges) {
     let wrap = room(&[node(16_777_215, 65_535), node(16_777_215, 65_535)], &heavy, &[]);
     e.steps("255 arrivals that would wrap", &wrap, &[&all], at(1));
     e.steps("17 at a later destination", &onto(4, 9), &[&[(1, 0)], &[(0, 1), (1, 1)]], at(2));
+}
+
+/// Node 1 starts over its CPU, with CPU 6 of 5, until VM 2 leaves. VM 0 has this CPU.
+fn over_cpu(memory: u64, cpu: u64) -> Room {
+    room(
+        &[node(9, 9), node(memory, 5), node(9, 9)],
+        &[vm(1, cpu, 0, 1), vm(1, 3, 1, 1), vm(1, 3, 1, 2)],
+        &[],
+    )
+}
+
+/// An idle VM is tested for memory alone when it begins, any other for both.
+fn idle_fits(e: &mut Edges) {
+    let at = |step: u16| Some((17, step));
+    for (cpu, check) in [(0, None), (1, at(1)), (2, at(1))] {
+        let mut add = |name: &str, list: &[&[(usize, usize)]], check| {
+            e.steps(&format!("CPU {cpu} {name}"), &over_cpu(9, cpu), list, check);
+        };
+        add("onto a node over its CPU", &[&[(0, 1)], &[(2, 2)]], check);
+        add("beside the VM that leaves", &[&[(0, 1), (2, 2)]], check);
+        add("once it is within", &[&[(2, 2)], &[(0, 1)]], None);
+        add("there by a stop", &[&[(0, 2)], &[(0, 1)], &[(2, 2)]], check.map(|_| (17, 2)));
+        add("there, away and there", &[&[(0, 1)], &[(0, 0)], &[(0, 1), (2, 2)]], check);
+    }
+    let there: &[&[(usize, usize)]] = &[&[(0, 1)], &[(2, 2)]];
+    e.steps("over its CPU, memory just fits", &over_cpu(3, 0), there, None);
+    e.steps("over its CPU, memory one over", &over_cpu(2, 0), there, at(1));
+    e.steps("over its CPU, once there is memory", &over_cpu(2, 0), &[&[(2, 2)], &[(0, 1)]], None);
+    // Node 1 starts over its memory, and over both.
+    for cpu in [5, 9] {
+        let heap = room(
+            &[node(9, 9), node(3, cpu), node(9, 9)],
+            &[vm(1, 0, 0, 1), vm(2, 3, 1, 1), vm(2, 3, 1, 2)],
+            &[],
+        );
+        let name = format!("CPU 0 onto a node over its memory, CPU 6 of {cpu}");
+        e.steps(&name, &heap, there, at(1));
+        e.steps(&format!("{name}, as one leaves"), &heap, &[&[(0, 1), (2, 2)]], at(1));
+        e.steps(&format!("{name}, once it is within"), &heap, &[&[(2, 2)], &[(0, 1)]], None);
+    }
+    let onto = |memory, cpu| room(&[node(9, 9), node(memory, 0)], &[vm(1, cpu, 0, 0)], &[]);
+    let back: &[&[(usize, usize)]] = &[&[(0, 1)], &[(0, 0)]];
+    e.steps("CPU 0 onto a node of CPU 0", &onto(1, 0), back, None);
+    e.steps("CPU 1 onto a node of CPU 0", &onto(1, 1), back, at(1));
+    e.steps("CPU 0 onto a node of memory 0", &onto(0, 0), back, at(1));
+    let heavy = vm(1, 65_535, 1, 0);
+    let mut vms = vec![vm(1, 0, 0, 1); 256];
+    vms[254..].fill(heavy);
+    let many =
+        |memory| room(&[node(300, 65_535), node(memory, 65_535), node(9, 65_535)], &vms, &[]);
+    let mut many = [many(256), many(255)];
+    many.iter_mut().for_each(|room| room.vms[255].target = 2);
+    let all: Vec<(usize, usize)> = (0..254).map(|vm| (vm, 1)).collect();
+    let home: &[(usize, usize)] = &[(254, 0), (255, 2)];
+    e.steps("254 of CPU 0 onto a node over its CPU", &many[0], &[&all, home], None);
+    e.steps("the same, memory one over", &many[1], &[&all, home], at(1));
+    let closed = |cpu, list: &[Constraint]| Room { constraints: list.into(), ..over_cpu(9, cpu) };
+    let mates = [spread(&[0, 2])];
+    e.steps("CPU 0 meets a mate there", &closed(0, &mates), there, Some((18, 1)));
+    e.steps("CPU 1 does not fit beside a mate there", &closed(1, &mates), there, at(1));
+    let fenced = [fence(&[0], &[0, 1])];
+    e.steps("CPU 0 out of a fence", &closed(0, &fenced), &[&[(0, 2)]], Some((16, 1)));
+    e.steps("CPU 0 there, within a fence", &closed(0, &fenced), there, None);
+    e.sourced("CPU 0 there, source wrong", &over_cpu(9, 0), &[&[(0, 2, 1)]], Some((27, 1)));
+}
+
+/// Idle and active VMs that arrive at one node: each is tested for itself, with all the others counted.
+fn idle_beside_active(e: &mut Edges) {
+    let at = |step: u16| Some((17, step));
+    // VMs 0 and 1 are wanted on node 1, where VM 2 leaves behind it room for both. One of them has
+    // CPU 2, the other none.
+    let pair = |memory: u64, most: u64, cpus: [u64; 2]| {
+        room(
+            &[node(9, 9), node(memory, most), node(9, 9)],
+            &[vm(2, cpus[0], 0, 1), vm(3, cpus[1], 0, 1), vm(1, 4, 1, 2)],
+            &[],
+        )
+    };
+    for cpus in [[0, 2], [2, 0]] {
+        let (idle, active) = if cpus[0] == 0 { (0, 1) } else { (1, 0) };
+        let mut add = |name: &str, memory, most, list: &[&[(usize, usize)]], check| {
+            let name = format!("CPU {} and {}, {name}", cpus[0], cpus[1]);
+            e.steps(&name, &pair(memory, most, cpus), list, check);
+        };
+        let (both, out): (&[(usize, usize)], &[(usize, usize)]) = (&[(0, 1), (1, 1)], &[(2, 2)]);
+        let (one, other, one_out) = ([(idle, 1)], [(active, 1)], [(idle, 1), (2, 2)]);
+        add("both just fit", 6, 6, &[both, out], None);
+        add("CPU one over", 6, 5, &[both, out], at(1));
+        add("CPU one over, the idle one alone", 6, 5, &[&one, out, &other], None);
+        add("CPU one over, the active one alone", 6, 5, &[&other, out, &one], at(1));
+        add("over already", 6, 3, &[both, out], at(1));
+        add("over already, as one leaves", 6, 3, &[&[(0, 1), (1, 1), (2, 2)]], at(1));
+        add("over already, the idle one alone", 6, 3, &[&one, out, &other], None);
+        add("over already, the idle one as one leaves", 6, 3, &[&one_out, &other], None);
+        add("over already, the active one next", 6, 3, &[&one, &other, out], at(2));
+        add("memory one over", 5, 9, &[both, out], at(1));
+        add("memory one over, the idle one alone", 5, 9, &[&one, out, &other], None);
+        add("memory one over, the active one alone", 5, 9, &[&other, out, &one], None);
+        add("once one has left", 5, 2, &[out, both], None);
+    }
+    // Two nodes: one is over its CPU and takes the idle VM, the other the active one.
+    let two = room(
+        &[node(9, 9), node(9, 1), node(9, 2)],
+        &[vm(1, 0, 0, 1), vm(1, 2, 0, 2), vm(1, 2, 1, 0)],
+        &[],
+    );
+    e.steps("an idle and an active one to two nodes", &two, &[&[(0, 1), (1, 2)], &[(2, 0)]], None);
+    e.steps("changed over", &two, &[&[(0, 2), (1, 1)]], at(1));
 }
 
 /// A launch counts on its destination from its begin on, a shutdown on its source until it ends.
@@ -1339,9 +1453,15 @@ fn launches_and_shutdowns_fit(e: &mut Edges) {
     e.steps("shut down on an overfull node", &heap, &[&[(0, NOWHERE)], &[(2, 0)]], None);
     e.steps("launched on an overfull node", &heap, &[&[(2, 0)], &[(0, NOWHERE)]], at(1));
     e.steps("both there", &heap, &[&[(0, NOWHERE), (2, 0)]], at(1));
-    let idle = room_2(&[node(9, 1)], &[vm(1, 2, 0, NOWHERE), vm(1, 0, NOWHERE, 0)], &[]);
-    e.steps("CPU 0 launched on a node over its CPU", &idle, &[&[(1, 0)], &[(0, NOWHERE)]], at(1));
-    e.steps("once it is within", &idle, &[&[(0, NOWHERE)], &[(1, 0)]], None);
+    let busy = |cpu| room_2(&[node(2, 1)], &[vm(1, 2, 0, NOWHERE), vm(1, cpu, NOWHERE, 0)], &[]);
+    e.steps("CPU 0 launched on a node over its CPU", &busy(0), &[&on, &off], None);
+    e.steps("as another is shut down there", &busy(0), &[both], None);
+    e.steps("CPU 1 launched on a node over its CPU", &busy(1), &[&on, &off], at(1));
+    e.steps("as another is shut down there, CPU 1", &busy(1), &[both], at(1));
+    e.steps("once it is within", &busy(1), &[&off, &on], None);
+    let full = Room { nodes: vec![node(1, 1)], ..busy(0) };
+    e.steps("CPU 0 launched where memory is full", &full, &[&on, &off], at(1));
+    e.steps("once there is memory", &full, &[&off, &on], None);
     let large = vm(16_777_215, 65_535, NOWHERE, NOWHERE);
     let guest = room_2(&[node(16_777_215, 65_535), node(1, 1)], &[large, vm(1, 1, 1, 1)], &[]);
     e.steps("the largest launched and shut down", &guest, &[&[(0, 0)], &[(0, NOWHERE)]], None);
@@ -1470,4 +1590,31 @@ fn launches_and_shutdowns_planned(e: &mut Edges) {
     let fenced = [vm(2, 1, 0, NOWHERE), vm(2, 1, 1, 0), vm(2, 1, NOWHERE, 1)];
     let fences = [fence(&[0], &[0]), fence(&[2], &[1])];
     add("a shutdown, a move and a launch in turn", &room_2(&vec![node(2, 9); 2], &fenced, &fences));
+}
+
+/// Rooms in which idle VMs tell how the planner goes on.
+fn idle_planned(e: &mut Edges) {
+    let mut add = |name: &str, room: &Room| e.no_steps(name, &cluster_bytes(room), 19);
+    add("an idle VM that need not wait", &over_cpu(9, 0));
+    add("an active VM that waits", &over_cpu(9, 1));
+    add("an idle VM that waits for memory", &over_cpu(2, 0));
+    let launch = |cpu| {
+        let mut room = Room { version: Version::Two, ..over_cpu(9, cpu) };
+        room.vms[0].current = NOWHERE;
+        room
+    };
+    add("an idle launch that need not wait", &launch(0));
+    add("an active launch that waits", &launch(1));
+    let mut both = over_cpu(9, 1);
+    both.vms.push(vm(1, 0, 2, 1));
+    add("an idle VM goes first, an active one waits", &both);
+    let turn = |cpus: [u64; 2], memory| {
+        let vms = [vm(3, cpus[0], 0, 1), vm(2, cpus[1], 1, 0), vm(2, 2, 2, 0)];
+        room(&[node(4, 9), node(4, 9), node(memory, 1)], &vms, &[])
+    };
+    add("an idle pivot onto a node over its CPU", &turn([0, 0], 5));
+    add("the lowest VM is active, the next pivots", &turn([1, 0], 5));
+    add("the lowest VM has no memory there, the next pivots", &turn([0, 0], 4));
+    add("active VMs cannot pivot there", &turn([1, 1], 5));
+    add("no memory to pivot there", &turn([0, 0], 3));
 }

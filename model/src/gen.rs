@@ -6,7 +6,7 @@ use crate::records::{
     cluster_bytes_with, constraint_body, on_a_node, plan_bytes, state_length, Constraint, Move,
     Node, Plan, Room, Step, Version, Vm, CLUSTER_HEADER, NODE_ROW, NOWHERE, PLAN_HEADER, VM_ROW,
 };
-use crate::rules::{mates, may_go, step_fault, Book, Placement, Sum};
+use crate::rules::{cpu_within, mates, may_go, step_fault, Book, Placement, Sum};
 use crate::sources::{bare, named};
 
 pub const MOST_MEMORY: u64 = 16_777_215;
@@ -78,6 +78,7 @@ pub fn room(rng: &mut Rng, size: Size) -> Room {
     let (n, v) = counts(rng, size);
     let vms = vms_on_target(rng, n, v);
     let mut room = unsized_room(n, vms);
+    some_idle(rng, &mut room);
     scatter(rng, &mut room);
     some_down(rng, &mut room);
     size_nodes(rng, &mut room);
@@ -108,6 +109,15 @@ pub(crate) fn some_down(rng: &mut Rng, room: &mut Room) {
             }
         }
     }
+}
+
+/// Makes many VMs of a room idle, in one room of three.
+pub(crate) fn some_idle(rng: &mut Rng, room: &mut Room) {
+    if rng.chance(67) {
+        return;
+    }
+    let percent = rng.pick(&[20, 50, 50, 80]);
+    room.vms.iter_mut().filter(|_| rng.chance(percent)).for_each(|vm| vm.cpu = 0);
 }
 
 /// Puts a VM on no node for good, at times one that no node could hold.
@@ -203,7 +213,7 @@ fn size_nodes(rng: &mut Rng, room: &mut Room) {
     let end = Placement::target(room).sums;
     let most_memory = room.vms.iter().map(|vm| vm.memory).max().unwrap_or(0);
     let most_cpu = room.vms.iter().map(|vm| vm.cpu).max().unwrap_or(0);
-    let (memory_style, cpu_style) = (rng.below(7), rng.pick(&[0, 1, 2, 3, 3, 4, 4, 4, 5, 6]));
+    let (memory_style, cpu_style) = (rng.below(7), rng.pick(&[0, 0, 1, 2, 3, 3, 4, 4, 4, 5, 6]));
     for node in 0..room.nodes.len() {
         let (first, last) = (start[node].memory, end[node].memory);
         let memory = capacity(rng, memory_style, first, last, most_memory, MOST_MEMORY);
@@ -316,7 +326,7 @@ pub(crate) fn latency(rng: &mut Rng, room: &Room) -> Constraint {
 }
 
 /// A knot: VMs that change places among nodes with next to nothing free, and a node or two beside
-/// them to step onto. Most need pivots; many block.
+/// them to step onto, at times over their CPU. Most need pivots; many block.
 pub fn knot(rng: &mut Rng, size: Size) -> Room {
     let (n, v) = counts(rng, size);
     let n = n.max(3);
@@ -335,6 +345,8 @@ pub fn knot(rng: &mut Rng, size: Size) -> Room {
     for (vm, &place) in room.vms.iter_mut().zip(&places) {
         vm.current = if rng.chance(stay) { vm.target } else { place };
     }
+    some_idle(rng, &mut room);
+    let warm = warm_up(rng, &mut room, n - busy);
     some_down(rng, &mut room);
     let (start, end) = (Placement::current(&room).sums, Placement::target(&room).sums);
     let free = rng.pick(&[1, 1, 2, largest]);
@@ -344,11 +356,68 @@ pub fn knot(rng: &mut Rng, size: Size) -> Room {
         let cpu = start[i].cpu.max(end[i].cpu) + if roomy_cpu { 9 } else { rng.below(2) as u64 };
         room.nodes[i] = Node { memory, cpu };
     }
-    for spare in &mut room.nodes[busy..] {
-        *spare = Node { memory: rng.range(1, largest) as u64, cpu: spare.cpu + 2 };
+    for (spare, start) in room.nodes.iter_mut().zip(start).skip(busy) {
+        let cpu = if warm { rng.below(2) as u64 } else { spare.cpu + 2 };
+        *spare = Node { memory: start.memory + rng.range(1, largest) as u64, cpu };
     }
     if rng.chance(40) {
         room.constraints = constraints(rng, &room, Size::Tiny);
+    }
+    room
+}
+
+/// At times puts some VMs on the spare nodes, the last ones, to start from there; whether it did.
+/// Nobody should end there, so they may then have next to no CPU.
+pub(crate) fn warm_up(rng: &mut Rng, room: &mut Room, spares: usize) -> bool {
+    let warm = spares > 0 && rng.chance(20);
+    let n = room.nodes.len();
+    for vm in &mut room.vms {
+        if warm && rng.chance(30) {
+            vm.current = rng.range(n - spares, n - 1);
+        }
+    }
+    warm
+}
+
+/// A busy room: nodes that are over their CPU until active VMs have left them, and idle VMs that are
+/// wanted there. Memory may be what keeps them out.
+pub fn busy(rng: &mut Rng, size: Size) -> Room {
+    let (n, v) = counts(rng, size);
+    let n = n.max(2);
+    let mut nodes: Vec<usize> = (0..n).collect();
+    rng.shuffle(&mut nodes);
+    let (hot, cool) = nodes.split_at(rng.range(1, n - 1));
+    let (largest, idle) = (rng.pick(&[1, 2, 3, 6]), rng.pick(&[30, 50, 70]));
+    let vm = |rng: &mut Rng| {
+        let cpu = if rng.chance(idle) { 0 } else { rng.range(1, 3) as u64 };
+        let (one, other) = (rng.pick(hot), rng.pick(cool));
+        let (current, target) = match rng.below(10) {
+            0 | 1 => (one, one),
+            2 => (rng.below(n), rng.below(n)),
+            _ if cpu == 0 => (other, one),
+            _ => (one, other),
+        };
+        Vm { memory: rng.range(1, largest) as u64, cpu, current, target }
+    };
+    let vms = (0..v).map(|_| vm(rng)).collect();
+    let mut room = unsized_room(n, vms);
+    some_down(rng, &mut room);
+    let (start, end) = (Placement::current(&room).sums, Placement::target(&room).sums);
+    let (over_memory, over_cpu) = (rng.pick(&[0, 0, 20]), rng.pick(&[60, 90, 100]));
+    let free = rng.pick(&[1, 2, largest, 99]);
+    for i in 0..n {
+        let held = |over: bool, start: u64, end: u64| if over { end } else { start.max(end) };
+        let memory = held(rng.chance(over_memory), start[i].memory, end[i].memory);
+        let cpu = held(rng.chance(over_cpu), start[i].cpu, end[i].cpu);
+        let (memory, cpu) = (memory + rng.below(free) as u64, cpu + rng.pick(&[0, 0, 1, 3]));
+        room.nodes[i] = Node { memory, cpu };
+    }
+    if rng.chance(40) {
+        room.constraints = constraints(rng, &room, Size::Tiny);
+    }
+    if rng.chance(30) {
+        let wide = spread_among(rng, &room, (0..v).collect());
+        room.constraints.push(wide);
     }
     room
 }
@@ -428,6 +497,20 @@ pub fn launches_after_pivots(rng: &mut Rng, launches: usize) -> Room {
     let room = |memory: u64| Node { memory, cpu: 99 };
     let nodes = vec![room(held.max(5)), room(5), room(5)];
     Room { version: Version::Two, nodes, vms, constraints: vec![] }
+}
+
+/// Two VMs of full nodes are to change places. The one node with memory to step onto is over its CPU
+/// until an active VM leaves it, which waits for their places too. Mostly both are idle.
+pub fn idle_pivots(rng: &mut Rng) -> Room {
+    let (left, right, spare) = (0, 1, 2);
+    let cpus = rng.pick(&[[0, 0], [0, 0], [0, 0], [0, 1], [1, 0], [1, 1]]);
+    let vm = |memory, cpu, current, target| Vm { memory, cpu, current, target };
+    let mut vms =
+        vec![vm(3, cpus[0], left, right), vm(2, cpus[1], right, left), vm(2, 2, spare, left)];
+    rng.shuffle(&mut vms);
+    let node = |memory, cpu| Node { memory, cpu };
+    let nodes = vec![node(4, 9), node(4, 9), node(rng.range(4, 5) as u64, rng.below(2) as u64)];
+    Room { version: Version::One, nodes, vms, constraints: vec![] }
 }
 
 // ---------------------------------------------------------------- plans
@@ -659,7 +742,7 @@ fn blind_step(rng: &mut Rng, room: &Room) -> Step {
 
 /// Changes a plan in one place. Steps left empty go, as they would only be fault 14.
 pub fn spoil(rng: &mut Rng, room: &Room, steps: &mut Vec<Step>) {
-    match rng.below(29) {
+    match rng.below(34) {
         0 | 1 => swap_moves(rng, steps),
         2..=4 => merge_steps(rng, steps),
         5 | 6 => split_step(rng, steps),
@@ -675,11 +758,12 @@ pub fn spoil(rng: &mut Rng, room: &Room, steps: &mut Vec<Step>) {
         15 => on_a_move(rng, steps, |rng, m| m.to = rng.pick(&[room.nodes.len(), 64, 254])),
         16 => on_a_move(rng, steps, |_, m| m.to = room.vms.get(m.vm).map_or(0, |vm| vm.current)),
         17 | 18 => to_a_closed_node(rng, room, steps),
-        19..=21 => to_a_mate(rng, room, steps),
+        19..=21 | 32 => to_a_mate(rng, room, steps),
         22 => crowd(rng, room, steps),
         23 => on_a_move(rng, steps, |_, m| m.to = NOWHERE),
         24 | 25 => shut_down(rng, room, steps),
         26 | 27 => hurry(rng, room, steps),
+        28..=31 => onto_a_busy_node(rng, room, steps),
         _ => {
             steps.pop();
         }
@@ -799,6 +883,45 @@ fn hurry(rng: &mut Rng, room: &Room, steps: &mut [Step]) {
     launch.into_iter().for_each(|m| insert(&mut steps[first], m));
 }
 
+/// Sends some VMs to a node that is over its CPU at first: an idle one, an active one, or both, before
+/// the first step or in it.
+fn onto_a_busy_node(rng: &mut Rng, room: &Room, steps: &mut Vec<Step>) {
+    let sums = Placement::current(room).sums;
+    let over: Vec<usize> =
+        (0..room.nodes.len()).filter(|&node| !cpu_within(room, node, sums[node])).collect();
+    if over.is_empty() {
+        return extra_move(rng, room, steps);
+    }
+    if let Some(m) = idle_onto_a_mate(room, &over).filter(|_| rng.chance(40)) {
+        return steps.insert(0, vec![m]);
+    }
+    let to = rng.pick(&over);
+    let (mut idle, mut active): (Vec<usize>, Vec<usize>) = (0..room.vms.len())
+        .filter(|&vm| room.vms[vm].current != to)
+        .partition(|&vm| room.vms[vm].is_idle());
+    rng.shuffle(&mut idle);
+    rng.shuffle(&mut active);
+    idle.truncate(rng.below(3));
+    active.truncate(rng.below(2));
+    let mut first = if steps.is_empty() || rng.chance(50) { vec![] } else { steps.remove(0) };
+    for vm in idle.into_iter().chain(active) {
+        if first.iter().all(|m| m.vm != vm) {
+            insert(&mut first, Move::bare(vm, to));
+        }
+    }
+    steps.insert(0, first);
+}
+
+/// A move of an idle VM to a spread mate on one of these nodes, if there is one.
+fn idle_onto_a_mate(room: &Room, nodes: &[usize]) -> Option<Move> {
+    let mut idle = (0..room.vms.len()).filter(|&vm| room.vms[vm].is_idle());
+    idle.find_map(|vm| {
+        let mut places = mates(room, vm).into_iter().map(|mate| room.vms[mate].current);
+        let to = places.find(|to| nodes.contains(to) && *to != room.vms[vm].current)?;
+        Some(Move::bare(vm, to))
+    })
+}
+
 /// Sends a VM to a node that a ban or fence closes to it.
 fn to_a_closed_node(rng: &mut Rng, room: &Room, steps: &mut Vec<Step>) {
     let mut vms: Vec<usize> = (0..room.vms.len()).collect();
@@ -890,10 +1013,14 @@ pub fn damage_room(rng: &mut Rng, room: &mut Room) {
     if room.vms.is_empty() {
         return;
     }
-    let i = rng.below(room.vms.len());
+    let idle_arrival = room.vms.iter().position(|vm| vm.is_idle() && vm.current != vm.target);
+    let (i, what) = match idle_arrival {
+        Some(i) if rng.chance(20) => (i, 4),
+        _ => (rng.below(room.vms.len()), rng.below(12)),
+    };
     let target = room.vms[i].target;
     let held = Placement::target(room).sums.get(target).copied();
-    match rng.below(12) {
+    match what {
         0 => room.vms[i].memory = 0,
         1 => room.vms[i].current = rng.pick(&[n, n + 1, 254, NOWHERE]),
         2 => room.vms[i].target = rng.pick(&[n, n + 1, 254, NOWHERE]),
@@ -1136,6 +1263,8 @@ pub fn sized_case(rng: &mut Rng, size: Size) -> Case {
             let launches = rng.range(1, 4);
             launches_after_pivots(rng, launches)
         }
+        59 => idle_pivots(rng),
+        60..=75 => busy(rng, size),
         _ => room(rng, size),
     };
     let (plan, origin) = plan_case(rng, &room);

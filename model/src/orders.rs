@@ -2,7 +2,7 @@
 //! begin is tested as it happens. Sums and mates are worked out here afresh from the rows and the
 //! spread lists; nothing of the closed forms in `rules` is used.
 
-use crate::records::{on_a_node, Constraint, Move, Room};
+use crate::records::{on_a_node, Constraint, Move, Node, Room};
 use std::collections::HashSet;
 
 /// How far a move of the step has come.
@@ -71,8 +71,15 @@ impl Run<'_> {
         memory <= self.room.nodes[node].memory && cpu <= self.room.nodes[node].cpu
     }
 
-    /// Tests the begin of a waiting move as things stand: the destination's sums with the VM
-    /// included, and the mates that count on the destination. A shutdown may always begin.
+    /// Whether a VM fits a node it counts on: by memory, and if it has CPU by CPU too.
+    fn fits(&self, phases: &[Phase], vm: usize, node: usize) -> bool {
+        let (memory, cpu) = self.load(phases, node);
+        let Node { memory: most_memory, cpu: most_cpu } = self.room.nodes[node];
+        memory <= most_memory && (self.room.vms[vm].cpu == 0 || cpu <= most_cpu)
+    }
+
+    /// Tests the begin of a waiting move as things stand: whether the VM then fits its destination,
+    /// and the mates that count there. A shutdown may always begin.
     pub fn test_begin(&self, phases: &[Phase], i: usize) -> Found {
         let Move { vm, to, .. } = self.step[i];
         if !on_a_node(to) {
@@ -80,7 +87,7 @@ impl Run<'_> {
         }
         let begun = with(phases, i, Phase::Running);
         Found {
-            misfit: !self.is_within(&begun, to),
+            misfit: !self.fits(&begun, vm, to),
             mate: (0..self.room.vms.len())
                 .any(|o| are_mates(self.room, vm, o) && self.counts_on(phases, o, to)),
         }

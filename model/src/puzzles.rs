@@ -1,6 +1,6 @@
 //! Seeded small clusters that are hard to plan: VMs that change places, or are launched and shut
-//! down, while next to nothing is free, with spare nodes to step onto that are small, or closed to
-//! some.
+//! down, while next to nothing is free, with spare nodes to step onto that are small, over their CPU,
+//! or closed to some.
 
 use crate::gen::{self, Rng};
 use crate::records::{Constraint, Node, Room, Vm};
@@ -21,10 +21,14 @@ pub fn puzzle(rng: &mut Rng) -> Room {
         .collect();
     rng.shuffle(&mut vms);
     let mut room = gen::unsized_room(n, vms);
+    gen::some_idle(rng, &mut room);
+    let warm = gen::warm_up(rng, &mut room, spares);
     gen::some_down(rng, &mut room);
     size_nodes(rng, &mut room);
-    for spare in &mut room.nodes[n - spares..] {
-        *spare = Node { memory: rng.below(largest + 2) as u64, cpu: rng.range(1, 9) as u64 };
+    let held = Placement::current(&room).sums;
+    for (spare, held) in room.nodes.iter_mut().zip(held).skip(n - spares) {
+        let cpu = if warm { rng.below(2) } else { rng.range(1, 9) };
+        *spare = Node { memory: held.memory + rng.below(largest + 2) as u64, cpu: cpu as u64 };
     }
     for _ in 0..rng.pick(&[0, 0, 1, 2, 4]) {
         let constraint = constraint(rng, &room, spares);

@@ -25,6 +25,13 @@ pub struct Vm {
     pub target: usize,
 }
 
+impl Vm {
+    /// Whether the VM needs no CPU. Then none is asked for when it arrives.
+    pub fn is_idle(&self) -> bool {
+        self.cpu == 0
+    }
+}
+
 /// The four kinds of constraint.
 #[derive(Clone, Debug, PartialEq, Eq)]
 pub enum Constraint {

@@ -80,9 +80,25 @@ impl Placement {
     }
 }
 
-/// Whether a node has enough for a sum; just enough is enough.
+/// Whether a node has the memory for a sum; just enough is enough.
+pub fn memory_within(room: &Room, node: usize, sum: Sum) -> bool {
+    sum.memory <= room.nodes[node].memory
+}
+
+/// Whether a node has the CPU for a sum; just enough is enough.
+pub fn cpu_within(room: &Room, node: usize, sum: Sum) -> bool {
+    sum.cpu <= room.nodes[node].cpu
+}
+
+/// Whether a node has enough of both for a sum.
 pub fn within(room: &Room, node: usize, sum: Sum) -> bool {
-    sum.memory <= room.nodes[node].memory && sum.cpu <= room.nodes[node].cpu
+    memory_within(room, node, sum) && cpu_within(room, node, sum)
+}
+
+/// Whether a VM may begin its move to a node that then has this sum, the VM included. An idle one
+/// is tested for memory alone, so a node over its CPU may take it; any other is tested for both.
+pub fn takes(room: &Room, node: usize, sum: Sum, vm: &Vm) -> bool {
+    memory_within(room, node, sum) && (vm.is_idle() || cpu_within(room, node, sum))
 }
 
 // ---------------------------------------------------------------- constraints
@@ -226,12 +242,12 @@ fn arrivals(step: &[Move]) -> impl Iterator<Item = &Move> {
 
 /// Fault 17 in closed form: the worst order begins all moves before any ends, so a destination
 /// carries all it held at the start, shut down in the step or not, and all that arrive there in
-/// the step, launched or not.
+/// the step, launched or not. So its CPU is tested if and only if some arrival there has CPU.
 pub fn misfits(room: &Room, start: &Placement, step: &[Move]) -> bool {
     arrivals(step).any(|m| {
         let arrivals = step.iter().filter(|other| other.to == m.to);
         let worst = arrivals.fold(start.sums[m.to], |sum, other| sum.plus(&room.vms[other.vm]));
-        !within(room, m.to, worst)
+        !takes(room, m.to, worst, &room.vms[m.vm])
     })
 }
 

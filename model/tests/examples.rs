@@ -93,6 +93,7 @@ fn versions_of_the_plans() {
 #[test]
 fn versions_of_the_clusters() {
     let down = [
+        "idle-launch",
         "latency-down",
         "launch",
         "launch-after-pivot",
@@ -140,6 +141,23 @@ fn clusters_that_are_the_same() {
     ];
     for (one, other) in alike {
         assert_eq!(bytes(&format!("{one}.cluster")), bytes(&format!("{other}.cluster")));
+    }
+}
+
+/// `idle`, and what little tells others from it: VM 0 is active, or node 1 has not its memory.
+#[test]
+fn idle_and_its_like() {
+    let room = |name: &str| parse_cluster(&bytes(&format!("{name}.cluster"))).unwrap();
+    let idle = room("idle");
+    assert!(idle.vms[0].is_idle() && idle.vms[1].cpu > idle.nodes[1].cpu);
+    let mut other = idle.clone();
+    other.vms[0].cpu = 1;
+    assert_eq!(other, room("idle-active"));
+    let mut other = idle;
+    other.nodes[1].memory = other.vms[1].memory - 1;
+    assert_eq!(other, room("idle-memory"));
+    for name in ["idle-active", "idle-memory"] {
+        assert_eq!(bytes(&format!("{name}.plan")), bytes("idle.plan"), "{name}");
     }
 }
 

@@ -1,41 +1,17 @@
 //! VMs on no node: records of version 2, launches, shutdowns, VMs that stay down, and what none of
 //! them changes.
 
+mod common;
+
+use common::{accepted, checked, hex, refused, steps_for, Rows, DOWN};
 use kobdrieft_model::edges::{node, room as made, room_2, sourced, steps, vm};
 use kobdrieft_model::gen::{apart, cases, knot, plan, room, Rng, Size};
 use kobdrieft_model::orders::{every_order, follow, Event, Found};
 use kobdrieft_model::planner::make_steps;
 use kobdrieft_model::puzzles::puzzle;
-use kobdrieft_model::rules::{accepted_cluster, check_steps, plan_cost};
+use kobdrieft_model::rules::{check_steps, plan_cost};
 use kobdrieft_model::text::plan_text;
 use kobdrieft_model::*;
-
-const DOWN: usize = 255;
-
-/// Bytes from hexadecimal with blanks between.
-fn hex(text: &str) -> Vec<u8> {
-    let digits: Vec<u8> = text.chars().filter_map(|c| c.to_digit(16)).map(|d| d as u8).collect();
-    digits.chunks(2).map(|pair| pair[0] * 16 + pair[1]).collect()
-}
-
-/// Steps as rows of VM and destination.
-type Rows<'a> = &'a [&'a [(usize, usize)]];
-
-fn refused(number: u8, step: u16) -> Verdict {
-    Verdict::Refused { number, step }
-}
-
-fn accepted(cost: u64) -> Verdict {
-    Verdict::Accepted { cost }
-}
-
-/// The one verdict on steps in both versions, with the right sources named in version 2.
-fn checked(room: &Room, plan: Rows) -> Verdict {
-    let (cluster, steps) = (cluster_bytes(room), steps(plan));
-    let verdict = check(&cluster, &plan_bytes(&bare(&steps)));
-    assert_eq!(check(&cluster, &plan_bytes(&named(room, &steps))), verdict);
-    verdict
-}
 
 /// The refusal of a cluster beside a plan of no steps, or 0; building gives the same, but not 19.
 fn number_of(cluster: &[u8]) -> u8 {
@@ -189,7 +165,7 @@ fn shutdowns_in_version_1() {
     assert_eq!(checked(&room, &[&[(0, 1)], &[(0, DOWN)]]), refused(15, 2));
     let mut rng = Rng::new(82);
     let mut seen = 0;
-    for _ in 0..4_000 {
+    for _ in 0..8_000 {
         let room = self::room(&mut rng, Size::Tiny);
         let Plan { steps, .. } = plan(&mut rng, &room).0;
         let first = steps.iter().position(|step| step.iter().any(|m| m.to == DOWN));
@@ -356,23 +332,17 @@ fn costs() {
 
 // ---------------------------------------------------------------- the planner
 
-fn planned(room: &Room) -> (Vec<Step>, bool) {
-    let bytes = cluster_bytes(room);
-    assert!(accepted_cluster(&bytes).is_ok());
-    make_steps(room)
-}
-
 #[test]
 fn a_launch_waits_for_a_shutdown() {
     let room = room_2(&[node(4, 100)], &[vm(3, 1, 0, DOWN), vm(2, 1, DOWN, 0)], &[]);
-    assert_eq!(planned(&room), (steps(&[&[(0, DOWN)], &[(1, 0)]]), true));
+    assert_eq!(steps_for(&room), (steps(&[&[(0, DOWN)], &[(1, 0)]]), true));
     let other = room_2(&[node(4, 100)], &[vm(2, 1, DOWN, 0), vm(3, 1, 0, DOWN)], &[]);
-    assert_eq!(planned(&other), (steps(&[&[(1, DOWN)], &[(0, 0)]]), true));
+    assert_eq!(steps_for(&other), (steps(&[&[(1, DOWN)], &[(0, 0)]]), true));
     let roomy = room_2(&[node(5, 100)], &[vm(3, 1, 0, DOWN), vm(2, 1, DOWN, 0)], &[]);
-    assert_eq!(planned(&roomy), (steps(&[&[(0, DOWN), (1, 0)]]), true));
+    assert_eq!(steps_for(&roomy), (steps(&[&[(0, DOWN), (1, 0)]]), true));
     let mates = Constraint::Spread { vms: vec![0, 1] };
     let apart = room_2(&[node(9, 100)], &[vm(3, 1, 0, DOWN), vm(2, 1, DOWN, 0)], &[mates]);
-    assert_eq!(planned(&apart), (steps(&[&[(0, DOWN)], &[(1, 0)]]), true));
+    assert_eq!(steps_for(&apart), (steps(&[&[(0, DOWN)], &[(1, 0)]]), true));
 }
 
 /// Once VM 0 has stepped aside, only the launch of VM 2 fits.
@@ -381,14 +351,14 @@ fn a_pivot_for_a_launch() {
     let vms = [vm(2, 1, 0, 1), vm(3, 1, 0, 1), vm(1, 1, DOWN, 0), vm(4, 1, 1, 0)];
     let room = room_2(&vec![node(5, 100); 3], &vms, &[]);
     let expected = [&[(0, 2)][..], &[(2, 0)], &[(1, 2)], &[(3, 0)], &[(0, 1), (1, 1)]];
-    assert_eq!(planned(&room), (steps(&expected), true));
+    assert_eq!(steps_for(&room), (steps(&expected), true));
     // Without VM 2 the first useful pivot is another one.
     let vms = [vms[0].clone(), vms[1].clone(), vms[3].clone()];
     let room = room_2(&vec![node(5, 100); 3], &vms, &[]);
-    assert_eq!(planned(&room).0[0], steps(&[&[(2, 2)]])[0]);
+    assert_eq!(steps_for(&room).0[0], steps(&[&[(2, 2)]])[0]);
     let mut stays = room.clone();
     stays.vms.push(vm(1, 1, DOWN, DOWN));
-    assert_eq!(planned(&stays), planned(&room));
+    assert_eq!(steps_for(&stays), steps_for(&room));
 }
 
 /// A launch blocks where nobody can leave its node, and nobody is shut down to help.
@@ -396,10 +366,10 @@ fn a_pivot_for_a_launch() {
 fn blocked_launches() {
     let vms = [vm(3, 1, 0, 1), vm(2, 1, 1, 0), vm(2, 1, DOWN, 0)];
     let room = room_2(&vec![node(4, 100); 2], &vms, &[]);
-    assert_eq!(planned(&room), (vec![], false));
+    assert_eq!(steps_for(&room), (vec![], false));
     let mut off = room.clone();
     off.vms.push(vm(1, 1, 1, DOWN));
-    assert_eq!(planned(&off), (steps(&[&[(3, DOWN)]]), false));
+    assert_eq!(steps_for(&off), (steps(&[&[(3, DOWN)]]), false));
     let cluster = cluster_bytes(&off);
     let mut out = [0; 2_562];
     assert_eq!(build(&cluster, &mut out), Answer::Blocked { steps: 1, moves: 1, cost: 0 });

@@ -57,7 +57,7 @@ fn closed(room: &Room, start: &Placement, step: &[Move]) -> Found {
 fn closed_forms_say_what_all_states_say() {
     let mut rng = Rng::new(1);
     let mut outcomes = [[[0; 4]; 2]; 2];
-    for _ in 0..60_000 {
+    for _ in 0..80_000 {
         let (room, start, step) = tight(&mut rng);
         let found = explore(&room, &start.place, &step);
         assert_eq!(found, closed(&room, &start, &step), "{room:?} {start:?} {step:?}");
@@ -162,8 +162,11 @@ fn in_a_sound_step_a_node_within_capacity_stays_within() {
         let waiting = vec![Phase::Waiting; step.len()];
         for node in 0..room.nodes.len() {
             let within = run.is_within(&waiting, node);
-            let arrival = step.iter().any(|m| m.to == node);
-            assert!(within || !arrival, "an overfull node took an arrival");
+            let over_memory = run.load(&waiting, node).0 > room.nodes[node].memory;
+            for m in step.iter().filter(|m| m.to == node) {
+                assert!(!over_memory, "a node over its memory took an arrival");
+                assert!(within || room.vms[m.vm].cpu == 0, "one over its CPU took an active VM");
+            }
             every_state(step.len(), |phases| assert!(!within || run.is_within(phases, node)));
         }
     }

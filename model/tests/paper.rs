@@ -1,14 +1,11 @@
 //! The cases of document 01's "Placements on paper", with its bytes for hand-made plans and with
 //! three-byte moves for what the planner writes.
 
+mod common;
+
+use common::{checked, hex, refused};
 use kobdrieft_model::edges::{cluster_a, node, room, sourced, steps, vm};
 use kobdrieft_model::*;
-
-/// Bytes from hexadecimal with blanks between.
-fn hex(text: &str) -> Vec<u8> {
-    let digits: Vec<u8> = text.chars().filter_map(|c| c.to_digit(16)).map(|d| d as u8).collect();
-    digits.chunks(2).map(|pair| pair[0] * 16 + pair[1]).collect()
-}
 
 fn a_bytes() -> Vec<u8> {
     hex("01 00000028 0003 0002 0000 0000040064 0000040064 0000040064 \
@@ -31,18 +28,6 @@ fn planned(room: &Room, record: &str) -> Answer {
     let plan = parse_plan(&record).unwrap();
     assert_eq!(check(&cluster, &plan_bytes(&bare(&plan.steps))), expected);
     answer
-}
-
-fn refused(number: u8, step: u16) -> Verdict {
-    Verdict::Refused { number, step }
-}
-
-/// The one verdict on steps in both versions, with the right sources named in version 2.
-fn checked(room: &Room, plan: &[&[(usize, usize)]]) -> Verdict {
-    let (cluster, steps) = (cluster_bytes(room), steps(plan));
-    let verdict = check(&cluster, &plan_bytes(&bare(&steps)));
-    assert_eq!(check(&cluster, &plan_bytes(&named(room, &steps))), verdict);
-    verdict
 }
 
 fn with_memories(memories: [u64; 3]) -> Room {

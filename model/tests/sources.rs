@@ -1,6 +1,9 @@
 //! Plans that name their sources: with right ones they are what they are without any, and a wrong
 //! one is refused with 27 at its step, behind 15 and before everything else.
 
+mod common;
+
+use common::refused;
 use kobdrieft_model::edges::{cluster_a, edges, node, room as made, steps, vm};
 use kobdrieft_model::gen::{apart, knot, one_wrong, other_file, plan, room, swaps, Rng, Size};
 use kobdrieft_model::orders::{explore, Found};
@@ -21,10 +24,6 @@ fn some_room(rng: &mut Rng, turn: usize) -> Room {
 /// Steps as a plan of version 2 with every source right, whatever they named before.
 fn named_anew(room: &Room, steps: &[Step]) -> Plan {
     named(room, &bare(steps).steps)
-}
-
-fn refused(number: u8, step: u16) -> Verdict {
-    Verdict::Refused { number, step }
 }
 
 /// The first step in which some move of a VM that is there names another node than the VM's place:

@@ -10,7 +10,7 @@ use Rattle.records.specs.Room.{Constraint, ban, fence, spread, latency, Room, r
 use Rattle.records.specs.Plan.{Step, withSources, moveTotal, stepsBytes, written, shaped}
 use Rattle.records.specs.Inner.{tellsSources}
 use Rattle.records.specs.declared.plan.Source.the-variants.{Unnamed, Named}
-use Rattle.rules.specs.Moments.{Placement, placeOf, currentOf, targetOf, bears, withVm, tallyAt, firstMoment, allRunning}
+use Rattle.rules.specs.Moments.{Placement, placeOf, currentOf, targetOf, bearsAt, withVm, tallyAt, firstMoment, allRunning}
 use Rattle.rules.specs.Orders.{spreads, some, meetsMate}
 use Rattle.rules.specs.Rules.{allowed, soundStep}
 use Rattle.rules.specs.Verdict.{home}
@@ -66,7 +66,7 @@ unfoldable pub joinsIn : List ℕ → List ℕ → List ℕ → Tally → ℕ �
 joinsIn s places dests here v d =
     not (eqb (getD places v 0) d) &&
     (allowed (roomOf s) v d &&
-    (bears (roomOf s) d (withVm here (vmOf (roomOf s) v)) &&
+    (bearsAt (roomOf s) d (withVm here (vmOf (roomOf s) v)) (vmOf (roomOf s) v) &&
     not (meetsMate (roomOf s) (busyFrom places dests 0 (vmCount s)) v d)))
 
 -- where VM v goes: to its target if it may, else it has no move

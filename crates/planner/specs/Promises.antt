@@ -67,7 +67,8 @@ pub record Written (cluster plan : List ℕ) (made : Made) : Type 0 where
   pub well-sourced : sourcedAll (currentOf (roomOf cluster)) (stepsOf plan) ≡ true
   pub obeys : (last : Placement) (run : Run (roomOf cluster) (currentOf (roomOf cluster)) (stepsOf plan) last) → EachBeginOfRun (Obeys (roomOf cluster)) run
   pub reaches : (last : Placement) → Run (roomOf cluster) (currentOf (roomOf cluster)) (stepsOf plan) last → last ≡ afterAll (currentOf (roomOf cluster)) (stepsOf plan)
-  -- in no run does a node that is within what it has go past it, or an overfull one take an arrival, or do mates that are apart meet
+  -- in no run does a node that is within what it has go past it, or one over its memory take a VM, or one over its CPU take an active one, or do
+  -- mates that are apart meet
   pub auditor : StaysWithin (roomOf cluster) (currentOf (roomOf cluster)) (stepsOf plan)
   pub apart : StaysApart (roomOf cluster) (currentOf (roomOf cluster)) (stepsOf plan)
   -- nor is a VM taken down that is wanted on a node (02, Job 2)

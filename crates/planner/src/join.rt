@@ -11,16 +11,16 @@ ghost use mathlib.Core.Bool.{true};
 ghost use Prim.Native.Nat.{_<_};
 ghost use Rattle.records.specs.Room.{roomOf, nodeOf, vmOf, nodeCount, vmCount, placeOk, clusterCheck};
 ghost use Rattle.records.specs.declared.faults.ClusterCheck.{ClusterCheck};
-ghost use Rattle.rules.specs.Moments.{within, withVm};
+ghost use Rattle.rules.specs.Moments.{bears, withVm};
 ghost use Rattle.rules.specs.Inner.{Allows};
 ghost use Rattle.planner.specs.Inner.{Pairs, joinsIn, Light};
 
-// Whether a tally with VM v added is within what node d has.
+// Whether node d bears a tally with VM v added, for that VM.
 fn fits_with(cluster: &[u8], here: Tally, v: usize, d: usize) -> bool
     requires { ⌜ (clusterCheck (now cluster) ≡ ClusterCheck.Whole) × (v < vmCount (now cluster)) × (d < nodeCount (now cluster)) × Light here ⌝ }
-    ensures { λ r. ⌜ r ≡ within (nodeOf (roomOf (now (cluster .entry))) d) (withVm here (vmOf (roomOf (now (cluster .entry))) v)) ⌝ }
+    ensures { λ r. ⌜ r ≡ bears (nodeOf (roomOf (now (cluster .entry))) d) (withVm here (vmOf (roomOf (now (cluster .entry))) v)) (vmOf (roomOf (now (cluster .entry))) v) ⌝ }
 {
-    rules::within_node(cluster, d, here.with(rules::need_of(cluster, v)))
+    rules::bears_vm(cluster, d, here.with(rules::need_of(cluster, v)), v)
 }
 
 // Whether VM v may go to d beside the moves of an array of destinations, `here` being the tally of d with those moves running if d is a node.

@@ -1,4 +1,5 @@
 -- The laws by topic.
+pub mod Bears
 pub mod Orders
 pub mod Sound
 pub mod Runs

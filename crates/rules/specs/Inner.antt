@@ -8,9 +8,9 @@ use lib.Dec.{ltb, eqb}
 use Rattle.records.specs.Base.{pick, all, sumOf}
 use Rattle.records.specs.Room.{Constraint, ban, fence, spread, latency, Room, vmOf, nodeOf, roomOf, nodeCount, vmCount, nodesOf, groupsOf, placeOk, listOk, groupsFrom, groupsEnd, constraintOf, filled, clusterCheck}
 use Rattle.records.specs.Inner.{Below, Steps}
-use Rattle.records.specs.Plan.{Step, moveOf, stepAt, stepEnd, stepsFrom, stepsOf}
+use Rattle.records.specs.Plan.{Move, Step, moveOf, stepAt, stepEnd, stepsFrom, stepsOf}
 use Rattle.records.specs.declared.faults.ClusterCheck.{ClusterCheck}
-use Rattle.rules.specs.Moments.{Placement, placeOf, targetOf, Phase, idle, running, cell, Moment, tallyAt, emptyTally, within, bears}
+use Rattle.rules.specs.Moments.{Placement, placeOf, targetOf, Phase, staying, running, cell, Moment, tallyAt, emptyTally, within, bearsAt}
 use Rattle.rules.specs.Cost.{memoryOf, costOf}
 use Rattle.rules.specs.Orders.{some}
 use Rattle.rules.specs.Rules.{from, allowed, named, fitting, unmet}
@@ -62,7 +62,7 @@ destsFrom (move ∷ moves) = set (destsFrom moves) (move .vm) (move .to)
 
 -- the cells of n VMs from v on, with the destinations of an array
 unfoldable pub goalIn : List ℕ → ℕ → Phase
-goalIn dests v = pick (eqb (getD dests v 0) noMove) idle (running (getD dests v 0))
+goalIn dests v = pick (eqb (getD dests v 0) noMove) staying (running (getD dests v 0))
 
 unfoldable pub busyFrom : List ℕ → List ℕ → ℕ → ℕ → Moment
 busyFrom places dests v zero = []
@@ -91,9 +91,13 @@ pub record Aimed (s : List ℕ) (step : Step) : Type 0 where
   pub vms : (i : ℕ) → i < length step → moveOf step i .vm < vmCount s
   pub each : (i : ℕ) → i < length step → placeOk true (nodeCount s) (moveOf step i .to) ≡ true
 
--- each destination bears its tally, as the sums have it
+-- a move fits where it goes, what counts there being given: its destination bears that for the VM that is sent there
+abbrev pub borneIn : Room → Tally → Move → Bool
+borneIn room here move = bearsAt room (move .to) here (vmOf room (move .vm))
+
+-- each move of a step fits, what counts there being as the sums have it
 unfoldable pub fitsIn : Room → List Tally → Step → Bool
-fitsIn room sums step = all (λ move. bears room (move .to) (getD sums (move .to) emptyTally)) step
+fitsIn room sums step = all (λ move. borneIn room (getD sums (move .to) emptyTally) move) step
 
 -- ---- where each VM may go, as a table of 64 marks a VM
 

@@ -35,17 +35,32 @@ emptyTally = record { memory = 0; cpu = 0 }
 abbrev pub withVm : Tally → Vm → Tally
 withVm tally vm = record { memory = tally .memory + vm .memory; cpu = tally .cpu + vm .cpu }
 
--- a tally is within what a node has
+-- a sum is within what a node has
+abbrev pub withinMemory : Node → Tally → Bool
+withinMemory node tally = leb (tally .memory) (node .memory)
+
+abbrev pub withinCpu : Node → Tally → Bool
+withinCpu node tally = leb (tally .cpu) (node .cpu)
+
+-- both are, whoever is there: this is asked of the target
 unfoldable pub within : Node → Tally → Bool
-within node tally = leb (tally .memory) (node .memory) && leb (tally .cpu) (node .cpu)
+within node tally = withinMemory node tally && withinCpu node tally
 
--- a place bears a tally: a node if the tally is within what it has; on no node nothing is asked (02, Job 2)
-unfoldable pub bears : Room → ℕ → Tally → Bool
-bears room d tally = pick (onNode d) (within (nodeOf room d) tally) true
+-- a VM is idle if it has no CPU (02, Job 3)
+abbrev pub isIdle : Vm → Bool
+isIdle vm = eqb (vm .cpu) 0
 
--- how far a VM's move in a step has come, with its destination; idle if it has none
+-- a node bears a tally for a VM that is counted in it and begins: the memory is within, and so is the CPU unless the VM is idle (02, Job 3)
+unfoldable pub bears : Node → Tally → Vm → Bool
+bears node tally vm = withinMemory node tally && (isIdle vm || withinCpu node tally)
+
+-- the same of a place: on no node nothing is asked (02, Job 2)
+unfoldable pub bearsAt : Room → ℕ → Tally → Vm → Bool
+bearsAt room d tally vm = pick (onNode d) (bears (nodeOf room d) tally vm) true
+
+-- how far a VM's move in a step has come, with its destination; staying if it has none
 pub data Phase : Type 0 where
-  idle : Phase
+  staying : Phase
   waiting : ℕ → Phase
   running : ℕ → Phase
   ended : ℕ → Phase
@@ -64,7 +79,7 @@ numberOf (cell v place phase) = v
 -- where a VM counts: on its place until its move begins, on both places while it runs, on its destination once it has ended. So a launch
 -- counts on one node only, and a shutdown on its node until its end; `nowhere` is no node, and nothing is claimed or asked of it (02, Job 2)
 unfoldable pub countsOn : ℕ → Cell → Bool
-countsOn d (cell v place idle) = eqb place d
+countsOn d (cell v place staying) = eqb place d
 countsOn d (cell v place (waiting to)) = eqb place d
 countsOn d (cell v place (running to)) = eqb place d || eqb to d
 countsOn d (cell v place (ended to)) = eqb to d
@@ -76,7 +91,7 @@ tallyAt room d (c ∷ cs) = pick (countsOn d c) (withVm (tallyAt room d cs) (vmO
 
 -- the phase that a step gives a VM before anything begins
 unfoldable pub phaseOf : Step → ℕ → Phase
-phaseOf [] v = idle
+phaseOf [] v = staying
 phaseOf (move ∷ moves) v = pick (eqb (move .vm) v) (waiting (move .to)) (phaseOf moves v)
 
 -- the first moment of a step: its moves waiting, the VMs on their places
@@ -93,7 +108,7 @@ atRest room places = firstMoment room places []
 
 -- the moment at which every move of the step runs
 unfoldable pub begun : Phase → Phase
-begun idle = idle
+begun staying = staying
 begun (waiting to) = running to
 begun (running to) = running to
 begun (ended to) = ended to
@@ -104,7 +119,7 @@ allRunning (cell v place phase ∷ cs) = cell v place (begun phase) ∷ allRunni
 
 -- no move waits or runs
 unfoldable pub rests : Cell → Bool
-rests (cell v place idle) = true
+rests (cell v place staying) = true
 rests (cell v place (waiting to)) = false
 rests (cell v place (running to)) = false
 rests (cell v place (ended to)) = true
@@ -114,7 +129,7 @@ settled cs = all rests cs
 
 -- the placement that a settled moment leaves
 unfoldable pub leftAt : Cell → ℕ
-leftAt (cell v place idle) = place
+leftAt (cell v place staying) = place
 leftAt (cell v place (waiting to)) = place
 leftAt (cell v place (running to)) = place
 leftAt (cell v place (ended to)) = to

@@ -8,7 +8,7 @@ use lib.Dec.{eqb}
 use Rattle.records.specs.Base.{pick}
 use Rattle.records.specs.Room.{Constraint, ban, fence, spread, latency, has, Room, vmOf, onNode}
 use Rattle.records.specs.Plan.{Step}
-use Rattle.rules.specs.Moments.{Placement, waiting, running, ended, Cell, cell, Moment, numberOf, countsOn, bears, withVm, tallyAt, firstMoment, atRest, settled, placesLeft}
+use Rattle.rules.specs.Moments.{Placement, waiting, running, ended, Cell, cell, Moment, numberOf, countsOn, bearsAt, withVm, tallyAt, firstMoment, atRest, settled, placesLeft}
 
 -- ---- what happens in a step
 
@@ -37,9 +37,9 @@ pub data Run (room : Room) : Placement → List Step → Placement → Type 0 wh
 
 -- ---- when a move may begin
 
--- the VM fits: with it, its destination bears the tally at this moment
+-- the VM fits: its destination bears the tally at this moment, the VM added, for it
 unfoldable pub fits : Room → Moment → ℕ → ℕ → Bool
-fits room cs v d = bears room d (withVm (tallyAt room d cs) (vmOf room v))
+fits room cs v d = bearsAt room d (withVm (tallyAt room d cs) (vmOf room v)) (vmOf room v)
 
 -- two VMs are mates if some spread names both
 unfoldable pub spreads : ℕ → ℕ → Constraint → Bool

@@ -6,13 +6,13 @@ use mathlib.Core.Logic.{_↔_, _⊎_}
 use mathlib.Core.Path.{_≡_}
 use lib.ListN.{length, getD, take}
 use Rattle.records.specs.Bytes.{versionOf}
-use Rattle.records.specs.Room.{Room, nodeOf, nowhere, roomOf, clusterCheck}
+use Rattle.records.specs.Room.{Room, nodeOf, vmOf, nowhere, roomOf, clusterCheck}
 use Rattle.records.specs.Plan.{Move, Step, withSources, moveOf, stepsOf, planCheck, headerBytes}
 use Rattle.records.specs.declared.plan.Source.{Source}
 use Rattle.records.specs.declared.plan.Source.the-variants.{Named}
 use Rattle.records.specs.declared.faults.ClusterCheck.{ClusterCheck}
 use Rattle.records.specs.declared.faults.PlanCheck.{PlanCheck}
-use Rattle.rules.specs.Moments.{Placement, placeOf, currentOf, targetOf, after, Moment, tallyAt, within, firstMoment, atRest, settled}
+use Rattle.rules.specs.Moments.{Placement, placeOf, currentOf, targetOf, after, Moment, tallyAt, firstMoment, atRest, settled}
 use Rattle.rules.specs.Orders.{Order, Run, fits, mates, meetsMate, standsOn, Apart, MayBegin, EachBegin, SomeBegin, EachBeginOfRun, EachMomentOfRun, EachChangeOfRun}
 use Rattle.rules.specs.Rules.{allowed, targetCheck, named, sourced, permitted, soundStep}
 use Rattle.rules.specs.Cost.{costOf}
@@ -139,22 +139,30 @@ pub record SourcesUnread (room : Room) : Type 0 where
 
 -- ---- what holds at every moment of every run
 
--- the auditor's first question, in every run. From one moment to the next a node never goes past its memory, nor past its CPU, if it was
--- within; so one that starts within is within at every moment; and a move to a node begins only where it fits, so an overfull node takes
--- none. This is of each node of the room
+-- the auditor's first question, in every run, of each node of the room.
+-- Memory: from one moment to the next a node that is within its memory stays within, so one that starts within is within at every moment; and
+-- one that is over its memory takes nobody.
+-- CPU: a node that is within its CPU stays within likewise; one that is over its CPU takes only idle VMs, and from one moment to the next its
+-- CPU sum is not raised while it is over (02, Job 3)
 pub record StaysWithin (room : Room) (places : Placement) (steps : List Step) : Type 0 where
   pub memory : (last : Placement) (run : Run room places steps last) (d : ℕ) → d < length (room .nodes) →
       tallyAt room d (atRest room places) .memory ≤ nodeOf room d .memory →
       EachMomentOfRun (λ cs. tallyAt room d cs .memory ≤ nodeOf room d .memory) run
+  pub memory-stays : (last : Placement) (run : Run room places steps last) (d : ℕ) → d < length (room .nodes) →
+      EachChangeOfRun (λ cs ds. tallyAt room d cs .memory ≤ nodeOf room d .memory → tallyAt room d ds .memory ≤ nodeOf room d .memory) run
+  pub memory-over : (last : Placement) (run : Run room places steps last) →
+      EachBeginOfRun (λ cs v d. d < length (room .nodes) → nodeOf room d .memory < tallyAt room d cs .memory → ⊥) run
   pub cpu : (last : Placement) (run : Run room places steps last) (d : ℕ) → d < length (room .nodes) →
       tallyAt room d (atRest room places) .cpu ≤ nodeOf room d .cpu →
       EachMomentOfRun (λ cs. tallyAt room d cs .cpu ≤ nodeOf room d .cpu) run
-  pub memory-stays : (last : Placement) (run : Run room places steps last) (d : ℕ) → d < length (room .nodes) →
-      EachChangeOfRun (λ cs ds. tallyAt room d cs .memory ≤ nodeOf room d .memory → tallyAt room d ds .memory ≤ nodeOf room d .memory) run
   pub cpu-stays : (last : Placement) (run : Run room places steps last) (d : ℕ) → d < length (room .nodes) →
       EachChangeOfRun (λ cs ds. tallyAt room d cs .cpu ≤ nodeOf room d .cpu → tallyAt room d ds .cpu ≤ nodeOf room d .cpu) run
-  pub arrivals : (last : Placement) (run : Run room places steps last) →
-      EachBeginOfRun (λ cs v d. d < length (room .nodes) → (fits room cs v d ≡ true) × (within (nodeOf room d) (tallyAt room d cs) ≡ true)) run
+  pub cpu-over : (last : Placement) (run : Run room places steps last) →
+      EachBeginOfRun (λ cs v d. d < length (room .nodes) → nodeOf room d .cpu < tallyAt room d cs .cpu → vmOf room v .cpu ≡ 0) run
+  pub cpu-unraised : (last : Placement) (run : Run room places steps last) (d : ℕ) → d < length (room .nodes) →
+      EachChangeOfRun (λ cs ds. nodeOf room d .cpu < tallyAt room d cs .cpu → tallyAt room d ds .cpu ≤ tallyAt room d cs .cpu) run
+  -- nobody begins but where it fits
+  pub arrivals : (last : Placement) (run : Run room places steps last) → EachBeginOfRun (λ cs v d. fits room cs v d ≡ true) run
 
 -- spreads, in every run. From one moment to the next two mates that share no node never come to share one, a running VM counting on both of
 -- its nodes; so mates that are apart at the start are apart at every moment
@@ -215,7 +223,7 @@ pub record Checked (cluster plan : List ℕ) (r : ℕ) : Type 0 where
   -- an accepted plan costs what Entropy estimates, which is below 2 to the 43
   pub cost : SaysGood r → toldCost r ≡ costOf (roomOf cluster) (stepsOf plan)
   pub below : SaysGood r → toldCost r < 2 ^ 43
-  -- no run of it takes a node past what it has, or brings mates together
+  -- no run of it takes a node past what it has, or adds CPU to one that is past it, or brings mates together
   pub auditor : SaysGood r → StaysWithin (roomOf cluster) (currentOf (roomOf cluster)) (stepsOf plan)
   pub apart : SaysGood r → StaysApart (roomOf cluster) (currentOf (roomOf cluster)) (stepsOf plan)
   -- nor takes a VM down that is wanted on a node; in a cluster of version 1 nobody is down or is to be, and a shutdown is 15 (02, Job 2)

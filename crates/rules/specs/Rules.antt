@@ -6,11 +6,11 @@ use mathlib.Core.List.{List, [], _∷_}
 use lib.ListN.{length}
 use lib.Dec.{ltb, leb, eqb}
 use Rattle.records.specs.Base.{pick, all}
-use Rattle.records.specs.Room.{Constraint, ban, fence, spread, latency, has, vmsOf, Room, nodeOf, nowhere, onNode}
+use Rattle.records.specs.Room.{Constraint, ban, fence, spread, latency, has, vmsOf, Room, nodeOf, vmOf, nowhere, onNode}
 use Rattle.records.specs.Plan.{Move, Step}
 use Rattle.records.specs.declared.plan.Source.{Source}
 use Rattle.records.specs.declared.plan.Source.the-variants.{Unnamed, Named}
-use Rattle.rules.specs.Moments.{Placement, placeOf, targetOf, within, bears, tallyAt, firstMoment, atRest, allRunning}
+use Rattle.rules.specs.Moments.{Placement, placeOf, targetOf, within, bearsAt, tallyAt, firstMoment, atRest, allRunning}
 use Rattle.rules.specs.Orders.{some, meetsMate}
 use Rattle.rules.specs.declared.faults.TargetFault.{TargetFault}
 use Rattle.rules.specs.declared.faults.TargetFault.the-variants.{Overfull, Broken}
@@ -41,7 +41,7 @@ unfoldable pub from : ℕ → ℕ → List ℕ
 from v zero = []
 from v (suc n) = v ∷ from (suc v) n
 
--- 8: the tally of every node, all VMs at rest on a placement, is within what the node has
+-- 8: the tally of every node, all VMs at rest on a placement, is within what the node has, memory and CPU, idle VMs or not
 unfoldable pub fitsAll : Room → Placement → Bool
 fitsAll room places = all (λ d. within (nodeOf room d) (tallyAt room d (atRest room places))) (from 0 (length (room .nodes)))
 
@@ -96,11 +96,11 @@ sourced places step = all (λ move. isPlace (move .source) (placeOf places (move
 unfoldable pub permitted : Room → Step → Bool
 permitted room step = all (λ move. allowed room (move .vm) (move .to)) step
 
--- 17, as it is decided: with every move running, each destination bears its tally. (Promises says what it means, over every order, and that
--- the two agree.)
+-- 17, as it is decided: with every move running, each destination bears its tally for the VM that is sent there. (Promises says what it means,
+-- over every order, and that the two agree.)
 unfoldable pub fitting : Room → Placement → Step → Bool
 fitting room places step =
-    all (λ move. bears room (move .to) (tallyAt room (move .to) (allRunning (firstMoment room places step)))) step
+    all (λ move. bearsAt room (move .to) (tallyAt room (move .to) (allRunning (firstMoment room places step))) (vmOf room (move .vm))) step
 
 -- 18, as it is decided: with every move running, no mate of a moved VM counts on its destination
 unfoldable pub unmet : Room → Placement → Step → Bool

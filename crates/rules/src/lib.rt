@@ -41,8 +41,8 @@ pub use arrays::VMS;
 pub use step::loads;
 pub use tally::Need;
 pub use tally::Tally;
+pub use tally::bears_vm;
 pub use tally::need_of;
-pub use tally::within_node;
 
 // Placements, destinations and the target.
 pub use allow::allow_table;

@@ -9,19 +9,20 @@ use crate::faults::StepCheck;
 use crate::faults::StepFault;
 use crate::places::destinations;
 use crate::places::place_at;
+use crate::places::wide;
 use crate::spread::mates_unmet;
 use crate::tally::Tally;
+use crate::tally::bears_vm;
 use crate::tally::need_of;
-use crate::tally::within_node;
 use records::Source;
 ghost use mathlib.Core.Path.{_≡_};
 ghost use Prim.Native.Nat.{_≤_, _<_};
 ghost use lib.ListN.{length};
 ghost use Rattle.records.specs.Room.{roomOf, nodeCount, vmCount, clusterCheck};
-ghost use Rattle.records.specs.Plan.{stepAt, stepEnd};
+ghost use Rattle.records.specs.Plan.{moveOf, moveCount, stepAt, stepEnd};
 ghost use Rattle.records.specs.declared.faults.ClusterCheck.{ClusterCheck};
 ghost use Rattle.rules.specs.Rules.{aims, named, isPlace, sourced, permitted, stepCheck};
-ghost use Rattle.rules.specs.Inner.{Held, Placed, runningCheck, held, Ready, Loads, Aimed, Allows, fitsIn};
+ghost use Rattle.rules.specs.Inner.{Held, Placed, runningCheck, held, Ready, Loads, Aimed, Allows, borneIn, fitsIn};
 
 // Whether VM v can be sent to d: to a node, or to no node if it is wanted there.
 fn can_send(cluster: &[u8], nodes: usize, v: usize, d: u8) -> bool
@@ -118,7 +119,20 @@ pub fn loads(cluster: &[u8], places: &Placement, dests: &Destinations) -> Sums
     sums
 }
 
-// 17: whether the tally of each node that is a destination, with every move running, is within what the node has.
+// Whether move i of a step fits where it goes, `here` being what counts there with every move running: to no node it always does.
+fn borne(cluster: &[u8], plan: &[u8], at: usize, i: usize, here: Tally) -> bool
+    requires { ⌜ (clusterCheck (now cluster) ≡ ClusterCheck.Whole) × (stepEnd (now plan) at ≤ length (now plan)) × Aimed (now cluster) (stepAt (now plan) at) × (i < moveCount (now plan) at) ⌝ }
+    ensures { λ r. ⌜ r ≡ borneIn (roomOf (now (cluster .entry))) here (moveOf (stepAt (now (plan .entry)) at) i) ⌝ }
+{
+    let d = records::move_to(plan, at, i) as usize;
+    if NODES <= d {
+        return true;
+    }
+    let v = records::move_vm(plan, at, i) as usize;
+    bears_vm(cluster, d, here, v)
+}
+
+// 17: whether each node that is a destination bears its tally, with every move running, for the VM sent there.
 pub fn fits_running(cluster: &[u8], plan: &[u8], at: usize, sums: Sums) -> bool
     requires { ⌜ (clusterCheck (now cluster) ≡ ClusterCheck.Whole) × (stepEnd (now plan) at ≤ length (now plan)) × Aimed (now cluster) (stepAt (now plan) at) ⌝ }
     ensures { λ r. ⌜ r ≡ fitsIn (roomOf (now (cluster .entry))) sums (stepAt (now (plan .entry)) at) ⌝ }
@@ -126,12 +140,10 @@ pub fn fits_running(cluster: &[u8], plan: &[u8], at: usize, sums: Sums) -> bool
     let n = records::move_count(plan, at);
     let mut i: usize = 0;
     while i < n {
-        let d = records::move_to(plan, at, i) as usize;
-        if d < NODES {
-            let t = sums[d];
-            if !within_node(cluster, d, t) {
-                return false;
-            }
+        let d = wide(records::move_to(plan, at, i));
+        let here = sums[d];
+        if !borne(cluster, plan, at, i, here) {
+            return false;
         }
         i += 1;
     }

@@ -1,9 +1,9 @@
 // A node's tally: the memory and CPU of the VMs that count there.
 ghost use mathlib.Core.Path.{_≡_};
 ghost use Prim.Native.Nat.{_+_, _<_, _^_};
-ghost use Rattle.records.specs.Room.{roomOf, nodeOf, nodeCount, vmCount, clusterCheck};
+ghost use Rattle.records.specs.Room.{roomOf, nodeOf, vmOf, nodeCount, vmCount, clusterCheck};
 ghost use Rattle.records.specs.declared.faults.ClusterCheck.{ClusterCheck};
-ghost use Rattle.rules.specs.Moments.{within};
+ghost use Rattle.rules.specs.Moments.{withinMemory, withinCpu, within, bears};
 ghost use Rattle.rules.specs.Inner.{NeedOf};
 
 // What a VM needs.
@@ -44,15 +44,43 @@ pub fn need_of(cluster: &[u8], v: usize) -> Need
     }
 }
 
+// Whether a tally's memory is within that of node d.
+fn within_memory(cluster: &[u8], d: usize, t: Tally) -> bool
+    requires { ⌜ (clusterCheck (now cluster) ≡ ClusterCheck.Whole) × (d < nodeCount (now cluster)) ⌝ }
+    ensures { λ r. ⌜ r ≡ withinMemory (nodeOf (roomOf (now (cluster .entry))) d) t ⌝ }
+{
+    t.memory <= records::node_memory(cluster, d) as u64
+}
+
+// Whether a tally's CPU is within that of node d.
+fn within_cpu(cluster: &[u8], d: usize, t: Tally) -> bool
+    requires { ⌜ (clusterCheck (now cluster) ≡ ClusterCheck.Whole) × (d < nodeCount (now cluster)) ⌝ }
+    ensures { λ r. ⌜ r ≡ withinCpu (nodeOf (roomOf (now (cluster .entry))) d) t ⌝ }
+{
+    t.cpu <= records::node_cpu(cluster, d) as u64
+}
+
 // Whether a tally is within what node d has.
 pub fn within_node(cluster: &[u8], d: usize, t: Tally) -> bool
     requires { ⌜ (clusterCheck (now cluster) ≡ ClusterCheck.Whole) × (d < nodeCount (now cluster)) ⌝ }
     ensures { λ r. ⌜ r ≡ within (nodeOf (roomOf (now (cluster .entry))) d) t ⌝ }
 {
-    let memory = records::node_memory(cluster, d) as u64;
-    let cpu = records::node_cpu(cluster, d) as u64;
-    if memory < t.memory {
+    if !within_memory(cluster, d, t) {
         return false;
     }
-    t.cpu <= cpu
+    within_cpu(cluster, d, t)
+}
+
+// Whether node d bears a tally for VM v, which begins: an idle one is tested for the memory alone.
+pub fn bears_vm(cluster: &[u8], d: usize, sum: Tally, v: usize) -> bool
+    requires { ⌜ (clusterCheck (now cluster) ≡ ClusterCheck.Whole) × (d < nodeCount (now cluster)) × (v < vmCount (now cluster)) ⌝ }
+    ensures { λ r. ⌜ r ≡ bears (nodeOf (roomOf (now (cluster .entry))) d) sum (vmOf (roomOf (now (cluster .entry))) v) ⌝ }
+{
+    if !within_memory(cluster, d, sum) {
+        return false;
+    }
+    if within_cpu(cluster, d, sum) {
+        return true;
+    }
+    records::vm_cpu(cluster, v) == 0
 }

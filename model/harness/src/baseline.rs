@@ -296,6 +296,12 @@ impl Sums {
     fn fit(&self, room: &Room, node: usize) -> bool {
         self.memory[node] <= room.node_memory[node] && self.cpu[node] <= room.node_cpu[node]
     }
+
+    /// Whether a VM that is counted on a node may be there: one without CPU needs only memory.
+    fn take_in(&self, room: &Room, vm: usize, node: usize) -> bool {
+        self.memory[node] <= room.node_memory[node]
+            && (self.cpu[node] <= room.node_cpu[node] || room.cpu[vm] == 0)
+    }
 }
 
 // ---------------------------------------------------------------- the plan record
@@ -417,7 +423,7 @@ fn step_fault<const WIDTH: usize, const DOWN: bool>(
         return 16;
     }
     each().for_each(|(vm, to)| here.sums.add(room, usize::from(vm), to));
-    if !each().all(|(_, to)| here.sums.fit(room, usize::from(to))) {
+    if !each().all(|(vm, to)| here.sums.take_in(room, usize::from(vm), usize::from(to))) {
         return 17;
     }
     if each().any(|(vm, to)| meets_mate(room, &mut here.vms_on[usize::from(to)], vm)) {

@@ -3,6 +3,7 @@
 use crate::launches::Launches;
 use crate::report::{hex, missing, outcome, print_counts, verdict_words};
 use crate::report::{Counts, Report, Stream, BLOCKED, COST, STRAY};
+use crate::seen::Made;
 use crate::{build, build_lent, check, Lent};
 use kobdrieft_model::gen::Rng;
 use kobdrieft_model::planner::BUFFER;
@@ -20,26 +21,28 @@ pub(crate) struct Builds {
 }
 
 impl Builds {
-    fn count(&mut self, stream: Stream, cluster: &[u8], built: &Built) {
+    /// Counts an answer; what was built, unless it is a refusal.
+    fn count(&mut self, stream: Stream, cluster: &[u8], built: &Built) -> Option<Made> {
         let outcome = outcome(built.answer);
         self.outcomes[outcome][stream as usize] += 1;
         if outcome != 1 && cluster[0] == 2 {
             self.launches.count(stream, outcome);
         }
         if built.is_refused() {
-            return;
+            return None;
         }
         let room = parse_cluster(cluster).expect("the model took it");
         let steps = parse_plan(built.record()).expect("the model wrote it").steps;
-        self.launches.tell(stream, outcome == 0, &room, &steps);
-        if matches!(stream, Stream::HandSet) {
-            return;
+        let made = Made::of(outcome == 0, room, steps);
+        self.launches.tell(stream, &made);
+        if !matches!(stream, Stream::HandSet) {
+            let pivots = pivots(&made.room, made.steps());
+            self.most_pivots = self.most_pivots.max(pivots);
+            self.most_steps = self.most_steps.max(built.steps());
+            self.pivoted += u64::from(outcome == 0 && pivots > 0);
+            self.blocked_late += u64::from(outcome == BLOCKED && built.steps() > 0);
         }
-        let pivots = pivots(&room, &steps);
-        self.most_pivots = self.most_pivots.max(pivots);
-        self.most_steps = self.most_steps.max(built.steps());
-        self.pivoted += u64::from(outcome == 0 && pivots > 0);
-        self.blocked_late += u64::from(outcome == BLOCKED && built.steps() > 0);
+        Some(made)
     }
 
     /// What no generated input led to.
@@ -84,7 +87,9 @@ impl Report {
         let mut rng = Rng::new(self.passed + self.failed);
         let before: Vec<u8> = (0..buffer).map(|_| rng.draw() as u8).collect();
         let expected = built_by(&before, |out| model::pack_answer(model::build(cluster, out)));
-        self.builds.count(stream, cluster, &expected);
+        if let Some(made) = self.builds.count(stream, cluster, &expected) {
+            self.idle.built.count(stream, &made);
+        }
         let (mut result, kept) = built_watched(cluster, &before);
         if kept && result == expected {
             result = built_by(&before, |out| build(cluster, out));

@@ -6,6 +6,7 @@
 
 use kobdrieft_model::edges::{self, cluster_a};
 use kobdrieft_model::gen::{MOST_CPU, MOST_MEMORY};
+use kobdrieft_model::rules::Placement;
 use kobdrieft_model::{bare, cluster_bytes, named, plan_bytes};
 use kobdrieft_model::{Constraint, Move, Node, Plan, Room, Step, Version, Vm, NOWHERE};
 
@@ -47,6 +48,7 @@ pub fn all() -> Vec<Input> {
         wide_spreads(),
         launches_and_shutdowns(),
         wide_launches(),
+        idle_arrivals(),
         small_room(),
     ]
 }
@@ -295,6 +297,35 @@ fn comes_and_goes(vm: usize, round: usize) -> usize {
 fn coming_and_going() -> Room {
     let places = |vm| (comes_and_goes(vm, 0), comes_and_goes(vm, 4));
     Room { version: Version::Two, ..full_room(NODES, places, latencies(CONSTRAINTS)) }
+}
+
+// ---------------------------------------------------------------- idle VMs
+
+/// 512 steps of 2 moves. Four active VMs on each node of the lower half keep it over its CPU until
+/// they go to the upper half at last. Before that 128 idle ones go to and fro between the halves,
+/// seven times each, and end on the lower.
+pub fn idle_arrivals() -> Input {
+    let (half, active) = (NODES / 2, VMS / 2);
+    let stop = |vm: usize, round: usize| match vm < active {
+        true => vm % half + half * round.saturating_sub(7),
+        false => (vm + 5 * round) % half + half * ((round + 1) % 2),
+    };
+    let mut room = full_room(
+        NODES,
+        |vm| (stop(vm, 0), stop(vm, if vm < active { 8 } else { 7 })),
+        latencies(CONSTRAINTS),
+    );
+    room.vms[active..].iter_mut().for_each(|vm| vm.cpu = 0);
+    let start = Placement::current(&room).sums;
+    for (node, sum) in room.nodes.iter_mut().zip(start).take(half) {
+        node.cpu = sum.cpu - 1;
+    }
+    let pairs = |first: usize, round: usize| {
+        let pair = move |i: usize| [first + i, first + i + 64];
+        (0..64).map(move |i| pair(i).map(|vm| Move::bare(vm, stop(vm, round))).to_vec())
+    };
+    let steps = (1..=7).flat_map(|round| pairs(active, round)).chain(pairs(0, 8)).collect();
+    input("idle arrivals", (room, steps), None)
 }
 
 // ---------------------------------------------------------------- the small room

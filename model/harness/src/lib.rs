@@ -6,14 +6,17 @@
 pub mod baseline;
 pub mod builds;
 pub mod empties;
+mod idle;
 pub mod inputs;
 pub mod launches;
 pub mod nowhere;
 pub mod report;
 pub mod rooms;
+mod seen;
 pub mod sources;
 pub mod streams;
 pub mod timing;
+mod told;
 
 mod c {
     extern "C" {

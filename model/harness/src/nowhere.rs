@@ -1,11 +1,11 @@
 //! Clusters of version 2 and VMs on no node: what came of such clusters, and what there is to tell
 //! of launches, shutdowns and VMs that stay down among the inputs of `check`.
 
-use crate::report::{missing, never_generated, outcome, print_kinds, print_row};
-use crate::report::{Counts, Kind, Row, Stream};
+use crate::report::{missing, outcome, print_kinds, Counts, Kind, Stream};
+use crate::seen::Seen;
+use crate::told::{Table, Told};
 use kobdrieft_model::rules::{allows, mates, meets_mate, misfits, Book, Placement};
-use kobdrieft_model::{on_a_node, parse_cluster, parse_plan};
-use kobdrieft_model::{Constraint, Move, Plan, Room, Version, NOWHERE};
+use kobdrieft_model::{on_a_node, parse_cluster, Constraint, Move, Version, NOWHERE};
 
 /// What can come of a plan for a cluster of version 2.
 const KINDS: [Kind; 10] = [
@@ -21,39 +21,7 @@ const KINDS: [Kind; 10] = [
     ("27", 27..=27),
 ];
 
-/// An input whose cluster can be read: the model's number, 0 for accepted; the plan, as one of no
-/// steps if it cannot be read; the moves before the step at fault, or all, each with the place it
-/// leaves; the step at fault, and where VMs are when it starts, or after the last.
-struct Seen {
-    number: usize,
-    room: Room,
-    plan: Plan,
-    made: Vec<(usize, Move)>,
-    fault: Vec<Move>,
-    here: Placement,
-}
-
 impl Seen {
-    fn of(cluster: &[u8], plan: &[u8], verdict: u64) -> Option<Seen> {
-        let (number, step) = (outcome(verdict), (verdict & 65_535) as usize);
-        let room = parse_cluster(cluster).ok()?;
-        let plan = parse_plan(plan).unwrap_or(Plan::empty(Version::One));
-        let sound = match number {
-            0 | 19 => plan.steps.len(),
-            15..=18 | 27 => step - 1,
-            _ => 0,
-        };
-        let mut here = Placement::current(&room);
-        let mut made = Vec::new();
-        for step in &plan.steps[..sound] {
-            made.extend(step.iter().map(|m| (here.place[m.vm], *m)));
-            here = here.after(&room, step);
-        }
-        let is_at_fault = matches!(number, 15..=18 | 27);
-        let fault = if is_at_fault { plan.steps[sound].clone() } else { vec![] };
-        Some(Seen { number, room, plan, made, fault, here })
-    }
-
     fn target(&self, vm: usize) -> usize {
         self.room.vms[vm].target
     }
@@ -70,7 +38,7 @@ impl Seen {
 
     /// Whether the plan is accepted and some move, from this place, is such.
     fn moved(&self, holds: impl Fn(usize, &Move) -> bool) -> bool {
-        self.number == 0 && self.made.iter().any(|(from, m)| holds(*from, m))
+        self.number == 0 && self.course.moves().any(|(at, m)| holds(at.place[m.vm], m))
     }
 
     /// Whether the step is refused with this number and some move of a VM that is there, from this
@@ -78,18 +46,18 @@ impl Seen {
     fn refused(&self, number: usize, holds: impl Fn(usize, &Move) -> bool) -> bool {
         let there = |m: &&Move| m.vm < self.room.vms.len();
         let mut moves = self.fault.iter().filter(there);
-        self.number == number && moves.any(|m| holds(self.here.place[m.vm], m))
+        self.number == number && moves.any(|m| holds(self.here().place[m.vm], m))
     }
 
     /// Whether the plan ends with some VM off its target and at such a place.
     fn left(&self, holds: impl Fn(usize) -> bool) -> bool {
-        let astray = self.here.out_of_place(&self.room);
-        self.number == 19 && astray.iter().any(|&vm| holds(self.here.place[vm]))
+        let astray = self.here().out_of_place(&self.room);
+        self.number == 19 && astray.iter().any(|&vm| holds(self.here().place[vm]))
     }
 
     /// The start of the step at fault, as it would be with the shutdowns of the step done.
     fn without_shutdowns(&self) -> Placement {
-        let mut place = self.here.place.clone();
+        let mut place = self.here().place.clone();
         self.fault.iter().filter(|m| !on_a_node(m.to)).for_each(|m| place[m.vm] = NOWHERE);
         Placement::of(&self.room, place)
     }
@@ -101,13 +69,13 @@ impl Seen {
 
     /// Whether a step is refused with 18 only since a mate is still being shut down.
     fn meets_leaver(&self) -> bool {
-        let book = Book::of(&self.room);
-        self.number == 18 && !meets_mate(&book, &self.without_shutdowns(), &self.fault)
+        let meets = || meets_mate(&Book::of(&self.room), &self.without_shutdowns(), &self.fault);
+        self.number == 18 && !meets()
     }
 
     /// Whether two launches of a step refused with 18 are of mates and go to one node.
     fn launches_meet(&self) -> bool {
-        let launched = |m: &&Move| self.number == 18 && !on_a_node(self.here.place[m.vm]);
+        let launched = |m: &&Move| self.number == 18 && !on_a_node(self.here().place[m.vm]);
         let launches: Vec<&Move> = self.fault.iter().filter(launched).collect();
         let meet = |a: &Move, b: &Move| a.to == b.to && mates(&self.room, a.vm).contains(&b.vm);
         launches.iter().any(|a| launches.iter().any(|b| meet(a, b)))
@@ -118,16 +86,13 @@ impl Seen {
         if self.number != number {
             return false;
         }
-        let was_up = |m: &&Move| on_a_node(self.here.place[m.vm]);
+        let was_up = |m: &&Move| on_a_node(self.here().place[m.vm]);
         let others: Vec<Move> = self.fault.iter().filter(was_up).copied().collect();
         !faulty(&others)
     }
 }
 
-/// A thing to tell of an input, and whether it is so.
-type Told = (&'static str, fn(&Seen) -> bool);
-
-const TOLD: [Told; 31] = [
+const TOLD: [Told<Seen>; 31] = [
     ("cluster 2, nobody ever down", |s| {
         s.number == 0 && s.room.version == Version::Two && !s.room.has_nowhere()
     }),
@@ -179,9 +144,10 @@ const TOLD: [Told; 31] = [
         s.moved(|_, m| !on_a_node(m.to) && s.room.constraints.iter().any(|c| fences(c, m.vm)))
     }),
     ("accepted, one stays down", |s| {
-        let still = |vm: usize| s.made.iter().all(|(_, m)| m.vm != vm);
-        let down = |vm: &usize| !on_a_node(s.here.place[*vm]);
-        s.number == 0 && !s.made.is_empty() && (0..s.room.vms.len()).filter(down).any(still)
+        let still = |vm: usize| s.course.moves().all(|(_, m)| m.vm != vm);
+        let down = |vm: &usize| !on_a_node(s.here().place[*vm]);
+        let moved = !s.course.steps.is_empty();
+        s.number == 0 && moved && (0..s.room.vms.len()).filter(down).any(still)
     }),
     ("15, down, target a node", |s| {
         s.room.version == Version::Two
@@ -201,23 +167,23 @@ const TOLD: [Told; 31] = [
         let closed = |m: &Move| s.room.constraints.iter().any(|c| !allows(c, m.vm, m.to));
         s.refused(16, |from, m| !on_a_node(from) && closed(m))
     }),
-    ("17, by a launch", |s| s.by_a_launch(17, |step| misfits(&s.room, &s.here, step))),
+    ("17, by a launch", |s| s.by_a_launch(17, |step| misfits(&s.room, s.here(), step))),
     ("17, a shutdown pays nobody", Seen::pays_nobody),
     ("18, by a launch", |s| {
-        s.by_a_launch(18, |step| meets_mate(&Book::of(&s.room), &s.here, step))
+        s.by_a_launch(18, |step| meets_mate(&Book::of(&s.room), s.here(), step))
     }),
     ("18, two launches meet", Seen::launches_meet),
     ("18, a mate being shut down", Seen::meets_leaver),
     ("19, one still down", |s| s.left(|place| !on_a_node(place))),
     ("19, one still up", |s| {
-        let astray = s.here.out_of_place(&s.room);
+        let astray = s.here().out_of_place(&s.room);
         s.number == 19 && astray.iter().any(|&vm| !on_a_node(s.target(vm)))
     }),
     ("19, launched elsewhere", |s| {
         let first_down = |vm: &usize| !on_a_node(s.room.vms[*vm].current);
-        let astray = s.here.out_of_place(&s.room);
+        let astray = s.here().out_of_place(&s.room);
         s.left(on_a_node)
-            && astray.iter().filter(|vm| on_a_node(s.here.place[**vm])).any(first_down)
+            && astray.iter().filter(|vm| on_a_node(s.here().place[**vm])).any(first_down)
     }),
 ];
 
@@ -225,24 +191,30 @@ fn fences(constraint: &Constraint, vm: usize) -> bool {
     matches!(constraint, Constraint::Fence { vms, .. } if vms.contains(&vm))
 }
 
-/// A thing to tell of a cluster record that cannot be read, by its bytes and its number.
-type Damage = (&'static str, fn(&[u8], usize) -> bool);
+/// A cluster record that cannot be read, and its number.
+struct Damaged {
+    number: usize,
+    cluster: Vec<u8>,
+}
 
-const DAMAGES: [Damage; 7] = [
-    ("2, version 0", |cluster, number| number == 2 && cluster[0] == 0),
-    ("2, version 3", |cluster, number| number == 2 && cluster[0] == 3),
-    ("2, version 255", |cluster, number| number == 2 && cluster[0] == 255),
-    ("6, 255 in cluster 1", |cluster, number| {
-        let two = [&[2], &cluster[1..]].concat();
-        number == 6 && cluster[0] == 1 && parse_cluster(&two) != Err(6)
+impl Damaged {
+    /// Whether it has this number and this version.
+    fn is(&self, number: usize, version: u8) -> bool {
+        self.number == number && self.cluster[0] == version
+    }
+}
+
+const DAMAGES: [Told<Damaged>; 7] = [
+    ("2, version 0", |d| d.is(2, 0)),
+    ("2, version 3", |d| d.is(2, 3)),
+    ("2, version 255", |d| d.is(2, 255)),
+    ("6, 255 in cluster 1", |d| {
+        let two = [&[2], &d.cluster[1..]].concat();
+        d.is(6, 1) && parse_cluster(&two) != Err(6)
     }),
-    ("6 in cluster 2", |cluster, number| number == 6 && cluster[0] == 2),
-    ("7, node 255 in cluster 1", |cluster, number| {
-        number == 7 && cluster[0] == 1 && lists_255(cluster)
-    }),
-    ("7, node 255 in cluster 2", |cluster, number| {
-        number == 7 && cluster[0] == 2 && lists_255(cluster)
-    }),
+    ("6 in cluster 2", |d| d.is(6, 2)),
+    ("7, node 255 in cluster 1", |d| d.is(7, 1) && lists_255(&d.cluster)),
+    ("7, node 255 in cluster 2", |d| d.is(7, 2) && lists_255(&d.cluster)),
 ];
 
 /// Whether some node list has 255 in it. It would stand last, as lists rise.
@@ -275,50 +247,48 @@ fn body_lists_255(body: &[u8]) -> Option<()> {
     }
 }
 
-#[derive(Default)]
 pub(crate) struct Nowhere {
     checks: Counts,
-    told: [Row; TOLD.len()],
-    damages: [Row; DAMAGES.len()],
+    told: Table<Seen>,
+    damages: Table<Damaged>,
+}
+
+impl Default for Nowhere {
+    fn default() -> Nowhere {
+        let (told, damages) = (Table::of(&TOLD), Table::of(&DAMAGES));
+        Nowhere { checks: Counts::default(), told, damages }
+    }
 }
 
 impl Nowhere {
     /// Counts an input if its cluster is of version 2, and by what there is to tell of it.
-    pub(crate) fn count(&mut self, stream: Stream, cluster: &[u8], plan: &[u8], verdict: u64) {
-        let (at, number) = (stream as usize, outcome(verdict));
+    pub(crate) fn count(
+        &mut self,
+        stream: Stream,
+        cluster: &[u8],
+        verdict: u64,
+        seen: Option<&Seen>,
+    ) {
+        let number = outcome(verdict);
         if number != 1 && cluster[0] == 2 {
-            self.checks[number][at] += 1;
+            self.checks[number][stream as usize] += 1;
         }
         if matches!(number, 2 | 6 | 7) {
-            for (row, (_, holds)) in self.damages.iter_mut().zip(DAMAGES) {
-                row[at] += u64::from(holds(cluster, number));
-            }
+            self.damages.count(stream, &Damaged { number, cluster: cluster.to_vec() });
         }
-        if let Some(seen) = Seen::of(cluster, plan, verdict) {
-            for (row, (_, holds)) in self.told.iter_mut().zip(TOLD) {
-                row[at] += u64::from(holds(&seen));
-            }
-        }
-    }
-
-    fn rows(&self) -> impl Iterator<Item = (&Row, &'static str)> {
-        let told = self.told.iter().zip(TOLD.map(|(name, _)| name));
-        told.chain(self.damages.iter().zip(DAMAGES.map(|(name, _)| name)))
+        seen.into_iter().for_each(|seen| self.told.count(stream, seen));
     }
 
     /// What no generated input led to.
     pub(crate) fn missing(&self) -> Vec<String> {
         let wanted = KINDS.into_iter().flat_map(|(_, outcomes)| outcomes);
-        let mut never = missing(&self.checks, "cluster 2,", wanted);
-        let rows = self.rows().filter(|(row, _)| never_generated(row));
-        never.extend(rows.map(|(_, name)| name.to_string()));
-        never
+        let checks = missing(&self.checks, "cluster 2,", wanted);
+        [checks, self.told.missing(), self.damages.missing()].concat()
     }
 
     pub(crate) fn print(&self) {
         print_kinds("cluster 2", &KINDS, &self.checks);
-        for (row, name) in self.rows() {
-            print_row(name, *row);
-        }
+        self.told.print();
+        self.damages.print();
     }
 }

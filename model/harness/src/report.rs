@@ -1,7 +1,9 @@
 //! Compares the library with the model, input by input, and keeps count of the outcomes.
 use crate::builds::Builds;
 use crate::empties::Empties;
+use crate::idle::Idle;
 use crate::nowhere::Nowhere;
+use crate::seen::Seen;
 use crate::sources::Sources;
 use crate::{check, check_lent, Lent};
 use kobdrieft_model as model;
@@ -34,6 +36,7 @@ pub struct Report {
     checks: Counts,
     sources: Sources,
     nowhere: Nowhere,
+    pub(crate) idle: Idle,
     pub(crate) empties: Empties,
     pub(crate) builds: Builds,
 }
@@ -44,7 +47,9 @@ impl Report {
         let expected = model::pack_verdict(model::check(cluster, plan));
         self.checks[outcome(expected)][stream as usize] += 1;
         self.sources.count(stream, cluster, plan, expected, origin);
-        self.nowhere.count(stream, cluster, plan, expected);
+        let seen = Seen::of(cluster, plan, expected);
+        self.nowhere.count(stream, cluster, expected, seen.as_ref());
+        seen.iter().for_each(|seen| self.idle.checked.count(stream, seen));
         if plan.is_empty() {
             self.empties.count_file(stream, expected);
         }
@@ -75,7 +80,8 @@ impl Report {
         let checks = missing(&self.checks, "check", (0..=9).chain(11..=19).chain([27]));
         let (sources, empties) = (self.sources.missing(), self.empties.missing());
         let (nowhere, builds) = (self.nowhere.missing(), self.builds.missing());
-        for name in [checks, sources, nowhere, empties, builds].concat() {
+        let idle = self.idle.missing();
+        for name in [checks, sources, nowhere, empties, builds, idle].concat() {
             println!("never generated: {name}");
             self.failed += 1;
         }
@@ -89,6 +95,7 @@ impl Report {
         self.nowhere.print();
         self.empties.print();
         self.builds.print();
+        self.idle.print();
         self.sources.print_origins();
         println!("{} passed, {} failed", self.passed, self.failed);
     }

@@ -37,6 +37,7 @@ pub fn all() -> Vec<Task> {
         task("exchanges, mates around", mates_around(), Ends::Blocked, 102),
         task("shutdowns, then launches", turnover(), Ends::Plan, 2),
         task("relay from a launch", relay(), Ends::Plan, 64),
+        task("relay of idle VMs", idle_relay(), Ends::Plan, 65),
         task("cluster A", cluster_a(), Ends::Plan, 3),
     ]
 }
@@ -165,4 +166,32 @@ fn relay() -> Room {
         node => (node, node + 1, 10),
     };
     Room { version: Version::Two, ..full_nodes(place, latencies(CONSTRAINTS)) }
+}
+
+/// Three idle VMs on each of 63 full nodes go to the next one; those of the last are shut down, and
+/// the first takes one from the roomy node beside them and two that are launched. An active VM on
+/// each but the first keeps it over its CPU; it goes to the roomy node when its mate, the one from
+/// there, has left. Two more are launched there.
+fn idle_relay() -> Room {
+    let roomy = NODES - 1;
+    let active = 3 * roomy;
+    let mate = active + roomy - 1;
+    let place = |i: usize| match i % roomy {
+        _ if i > mate + 2 => (NOWHERE, roomy, 10),
+        _ if i > mate => (NOWHERE, 0, 10),
+        _ if i == mate => (roomy, 0, 10),
+        node if i >= active => (node + 1, roomy, 10),
+        node if node == roomy - 1 => (node, NOWHERE, 10),
+        node => (node, node + 1, 10),
+    };
+    let spread = |vm| Constraint::Spread { vms: vec![vm, mate] };
+    let mut constraints = latencies(CONSTRAINTS - (mate - active));
+    constraints.extend((active..mate).map(spread));
+    let mut room = Room { version: Version::Two, ..full_nodes(place, constraints) };
+    for (i, vm) in room.vms.iter_mut().enumerate() {
+        vm.cpu = if (active..mate).contains(&i) { 2 } else { 0 };
+    }
+    room.nodes.iter_mut().for_each(|node| node.cpu = 1);
+    room.nodes[roomy] = ROOMY;
+    room
 }

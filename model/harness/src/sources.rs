@@ -1,8 +1,8 @@
 //! The plans that were checked, by version: what came of each, where they came from, and what there
 //! is to tell of those whose sources are wrong.
 
-use crate::report::{missing, never_generated, outcome, print_kinds, print_row};
-use crate::report::{Counts, Kind, Row, Stream};
+use crate::report::{missing, outcome, print_kinds, print_row, Counts, Kind, Stream};
+use crate::told::{Table, Told};
 use kobdrieft_model::gen::Origin;
 use kobdrieft_model::rules::{check_steps, Placement};
 use kobdrieft_model::{bare, parse_cluster, parse_plan, Move, Room, Verdict, Version};
@@ -84,10 +84,7 @@ enum Named {
     Other,
 }
 
-/// A thing to tell of a step with a wrong source, and whether it is so.
-type Told = (&'static str, fn(&Wrong) -> bool);
-
-const TOLD: [Told; 11] = [
+const TOLD: [Told<Wrong>; 11] = [
     ("27 in the first step", |w| w.is_27() && w.step == 1),
     ("27 in a later step", |w| w.is_27() && w.step > 1),
     ("27, else sound", |w| w.is_27() && w.unnamed.is_none()),
@@ -117,12 +114,18 @@ const ORIGINS: [(&str, Origin, Version, [bool; 4]); 9] = [
     ("other file, version 2", Origin::OtherFile, Version::Two, [true; 4]),
 ];
 
-#[derive(Default)]
 pub(crate) struct Sources {
     versions: [Counts; 2],
-    told: [Row; TOLD.len()],
+    told: Table<Wrong>,
     origins: [[u64; 4]; ORIGINS.len()],
     longest: [usize; 2],
+}
+
+impl Default for Sources {
+    fn default() -> Sources {
+        let (versions, origins) = (Default::default(), Default::default());
+        Sources { versions, told: Table::of(&TOLD), origins, longest: [0; 2] }
+    }
 }
 
 impl Sources {
@@ -145,9 +148,7 @@ impl Sources {
             self.longest[i] = self.longest[i].max(plan.len());
         }
         if let Some(wrong) = Wrong::of(cluster, plan, verdict) {
-            for (row, (_, holds)) in self.told.iter_mut().zip(TOLD) {
-                row[stream as usize] += u64::from(holds(&wrong));
-            }
+            self.told.count(stream, &wrong);
         }
         let kind = [0, 15, 27].iter().position(|&number| number == outcome).unwrap_or(3);
         for (row, (_, from, of, _)) in self.origins.iter_mut().zip(ORIGINS) {
@@ -163,8 +164,7 @@ impl Sources {
             let wanted = kinds(version).iter().flat_map(|(_, outcomes)| outcomes.clone());
             never.extend(missing(counts, &format!("{name},"), wanted));
         }
-        let told = self.told.iter().zip(TOLD).filter(|(row, _)| never_generated(row));
-        never.extend(told.map(|(_, (name, _))| name.to_string()));
+        never.extend(self.told.missing());
         for (row, (name, _, _, wanted)) in self.origins.iter().zip(ORIGINS) {
             for ((count, wanted), outcome) in row.iter().zip(wanted).zip(OUTCOMES) {
                 if wanted && *count == 0 {
@@ -179,9 +179,7 @@ impl Sources {
         for version in Version::ALL {
             print_kinds(name(version), kinds(version), &self.versions[version as usize - 1]);
         }
-        for (row, (name, _)) in self.told.iter().zip(TOLD) {
-            print_row(name, *row);
-        }
+        self.told.print();
     }
 
     /// What came of the generated plans by origin, all streams together.

@@ -3,7 +3,7 @@
 use super::words::place_words;
 use crate::form::{constraint_line, number_list, NODES};
 use crate::records::{on_a_node, Move, Room};
-use crate::rules::{allows, mates, within, Placement, Sum};
+use crate::rules::{allows, mates, memory_within, takes, Placement, Sum};
 
 /// More reasons than this are only counted; all are marked.
 const MOST_TOLD: usize = 3;
@@ -82,21 +82,25 @@ fn forbidden(room: &Room, Move { vm, to, .. }: Move) -> Option<Culprit> {
     Some(Culprit { place: Some(to), blocks: vec![(to, vm)], why })
 }
 
-/// Fault 17: each node that some order fills past its capacity.
+/// Fault 17: each node that in some order does not take an arrival.
 fn no_space(room: &Room, here: &Placement, step: &[Move]) -> Vec<Culprit> {
     (0..room.nodes.len()).filter_map(|node| misfit(room, here, step, node)).collect()
 }
 
-/// The arrivals at a node begin by number until one does not fit; nobody ends.
+/// The arrivals at a node begin by number until one does not fit; nobody ends. Where it does not fit
+/// by CPU, idle VMs have no part in it and are left out.
 fn misfit(room: &Room, here: &Placement, step: &[Move], node: usize) -> Option<Culprit> {
     let mut sum = here.sums[node];
     let mut begun = Vec::new();
     for m in step.iter().filter(|m| m.to == node) {
         sum = sum.plus(&room.vms[m.vm]);
         begun.push(m.vm);
-        if !within(room, node, sum) {
-            let leavers: Vec<Move> =
-                step.iter().copied().filter(|m| here.place[m.vm] == node).collect();
+        if !takes(room, node, sum, &room.vms[m.vm]) {
+            let by_cpu = memory_within(room, node, sum);
+            let has_part = |vm: usize| !(by_cpu && room.vms[vm].is_idle());
+            begun.retain(|&vm| has_part(vm));
+            let leaves = |m: &&Move| here.place[m.vm] == node && has_part(m.vm);
+            let leavers: Vec<Move> = step.iter().filter(leaves).copied().collect();
             let what = format!("{}{}", excess(room, node, sum), still_there(&leavers));
             let why = order(&begun, node, &what);
             return Some(Culprit { place: Some(node), blocks: vec![], why });
@@ -105,13 +109,13 @@ fn misfit(room: &Room, here: &Placement, step: &[Move], node: usize) -> Option<C
     None
 }
 
-/// The sum that passes its capacity.
+/// The sum that keeps an arrival out: memory, or CPU if there is memory enough.
 fn excess(room: &Room, node: usize, sum: Sum) -> String {
     let row = &room.nodes[node];
-    if sum.memory > row.memory {
-        format!("memory {} of {}", sum.memory, row.memory)
-    } else {
+    if memory_within(room, node, sum) {
         format!("CPU {} of {}", sum.cpu, row.cpu)
+    } else {
+        format!("memory {} of {}", sum.memory, row.memory)
     }
 }
 

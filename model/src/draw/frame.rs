@@ -3,7 +3,7 @@
 use super::blame::Blame;
 use super::words::{behind, many, moves, stranger, Spent};
 use crate::records::{on_a_node, Move, Room, Step, NOWHERE};
-use crate::rules::{Placement, Sum, Verdict};
+use crate::rules::{cpu_within, Placement, Sum, Verdict};
 
 /// Up to this many nodes are all shown in every frame, unless the page would have more blocks
 /// than this.
@@ -66,6 +66,15 @@ impl Frame {
     pub fn sum(&self, room: &Room, node: usize) -> Sum {
         let vms = self.nodes[node].iter().map(|block| &room.vms[block.vm]);
         vms.fold(Sum::NOTHING, |sum, vm| sum.plus(vm))
+    }
+
+    /// Whether some idle VM arrives on a node that is over its CPU.
+    pub fn has_idle_arrival_over_cpu(&self, room: &Room) -> bool {
+        let arrives = |b: &Block| matches!(b.role, Role::Arrives { .. });
+        let idle =
+            |node: usize| self.nodes[node].iter().any(|b| arrives(b) && room.vms[b.vm].is_idle());
+        let over = |node: usize| !cpu_within(room, node, self.sum(room, node));
+        (0..self.nodes.len()).any(|node| idle(node) && over(node))
     }
 
     /// How many moves run.

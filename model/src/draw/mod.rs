@@ -41,6 +41,8 @@ const BRIEF: &str = " A step's frame shows the nodes that the step touches; the 
 const SHELF: &str = " The shelf holds the VMs on no node; nothing counts there. Target none: the \
     VM is to be on no node. VM 5 \u{2192} none: it is shut down, and counts on its node until that \
     has ended. VM 5 \u{2190} none: it is launched.";
+const IDLE: &str = " A VM with CPU 0 needs only memory to arrive, so that a node over its CPU may \
+    take it.";
 const PIVOT: &str = " A pivot is a move to a node that is not its VM's target.";
 const MARKS: &str = " Broken red lines are around what refuses a step.";
 
@@ -133,6 +135,7 @@ fn reading(room: &Room, steps: &[Step], frames: &[Frame]) -> String {
         (true, LABELS),
         (frames.iter().any(|frame| frame.brief), BRIEF),
         (room.has_nowhere(), SHELF),
+        (frames.iter().any(|frame| frame.has_idle_arrival_over_cpu(room)), IDLE),
         (pivots, PIVOT),
         (frames.iter().any(|frame| !frame.blame.notes().is_empty()), MARKS),
     ];

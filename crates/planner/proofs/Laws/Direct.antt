@@ -13,7 +13,7 @@ use Rattle.records.specs.Base.{pick, all}
 use Rattle.records.specs.Room.{Room, nowhere, onNode}
 use Rattle.records.specs.Plan.{Move, Step}
 use Rattle.records.proofs.Laws.Bools.{and-left, and-right, and-both}
-use Rattle.rules.specs.Moments.{Placement, placeOf, targetOf, bears}
+use Rattle.rules.specs.Moments.{Placement, placeOf, targetOf, bearsAt}
 use Rattle.rules.specs.Orders.{meetsMate}
 use Rattle.rules.specs.Rules.{from, allowed, aims, soundStep}
 use Rattle.rules.proofs.Laws.Orders.{never, named-vm}
@@ -103,7 +103,7 @@ module _ (room : Room) (places : Placement) where
 
   -- a VM that is wanted on no node and is on one can always go: a shutdown never waits
   pub shutdown-goes : (v : ℕ) → v < length (room .vms) → placeOf (targetOf room) v ≡ nowhere → away room places v ≡ true → canGo room places v ≡ true
-  unfolding canGo away joins aims allowed bears meetsMate onNode
+  unfolding canGo away joins aims allowed bearsAt meetsMate onNode
   shutdown-goes v h t a =
       and-both a (alone room places v (placeOf (targetOf room) v) ∙ rw (t, lt-ltb v (length (room .vms)) h, or-true (ltb nowhere (length (room .nodes))), eqb-sym nowhere (placeOf places v))
       (rw t at (and-both a refl)))

@@ -19,12 +19,13 @@ use Rattle.records.specs.declared.faults.ClusterCheck.the-variants.{Whole}
 use Rattle.records.proofs.Laws.Bools.{all-head, all-tail}
 use Rattle.records.proofs.Laws.Cluster.{nodes-most, vms-most, vms-count}
 use Rattle.records.proofs.Laws.Rows.{place-node, node-on, near-node, far-off}
-use Rattle.rules.specs.Moments.{within, bears, withVm, tallyAt, firstMoment, allRunning}
+use Rattle.rules.specs.Moments.{bears, bearsAt, withVm, tallyAt, firstMoment, allRunning}
 use Rattle.rules.specs.Orders.{meetsMate}
 use Rattle.rules.specs.Rules.{allowed, aims, soundStep}
 use Rattle.rules.specs.Inner.{NeedOf, held, destsFrom, busyFrom, Allows}
 use Rattle.rules.specs.declared.tally.Need.{Need}
 use Rattle.rules.specs.declared.tally.Tally.{Tally}
+use Rattle.rules.proofs.Laws.Bears.{at-node}
 use Rattle.rules.proofs.Laws.Adding.{eqb-sym, joins, adding}
 use Rattle.rules.proofs.Laws.Fit.{aims-place, held-at, running-is}
 use Rattle.rules.proofs.Laws.Sound.{sound-named}
@@ -69,8 +70,8 @@ pub with-is : (room : Room) (v : ℕ) (need : Need) (here sum : Tally) → sum �
 with-is room v need here sum e n = e ∙ (λ i. record { memory = here .memory + n .memory i; cpu = here .cpu + n .cpu i })
 
 pub with-fits : (room : Room) (v d : ℕ) (need : Need) (here sum : Tally) (ok : Bool) → sum ≡ record { memory = here .memory + need .memory; cpu = here .cpu + need .cpu } →
-    ok ≡ within (nodeOf room d) sum → NeedOf room v need → ok ≡ within (nodeOf room d) (withVm here (vmOf room v))
-with-fits room v d need here sum ok e o n = o ∙ ap (within (nodeOf room d)) (with-is room v need here sum e n)
+    ok ≡ bears (nodeOf room d) sum (vmOf room v) → NeedOf room v need → ok ≡ bears (nodeOf room d) (withVm here (vmOf room v)) (vmOf room v)
+with-fits room v d need here sum ok e o n = o ∙ ap (λ (x : Tally). bears (nodeOf room d) x (vmOf room v)) (with-is room v need here sum e n)
 
 module _ (s places dests : List ℕ) (here : Tally) (v d : ℕ) where
   pub join-stays : (p : ℕ) → p ≡ getD places v 0 → p ≡ d → false ≡ joinsIn s places dests here v d
@@ -83,7 +84,7 @@ module _ (s places dests : List ℕ) (here : Tally) (v d : ℕ) where
 
     -- to no node nothing is asked
     pub join-off : clusterCheck s ≡ Whole → placeOk true (nodeCount s) d ≡ true → 64 ≤ d → true ≡ joinsIn s places dests here v d
-    unfolding joinsIn allowed bears meetsMate
+    unfolding joinsIn allowed bearsAt meetsMate
     join-off w a h = rw (leaves, far-off (nodeCount s) d (nodes-most s w) a h)
 
     module _ (table : List ℕ) (a : Allows s table) (w : clusterCheck s ≡ Whole) (t : v < vmCount s) (n : d < nodeCount s) where
@@ -105,10 +106,10 @@ module _ (s places dests : List ℕ) (here : Tally) (v d : ℕ) where
           go true q = q
           go false q = absurd (z (marked ∙ ap (λ (b : Bool). pick b 1 0) q))
 
-      module _ (z : getD table (v * 64 + d) 0 ≡ 0 → ⊥) (ok : Bool) (o : ok ≡ within (nodeOf (roomOf s) d) (withVm here (vmOf (roomOf s) v))) where
-        bears-is : bears (roomOf s) d (withVm here (vmOf (roomOf s) v)) ≡ ok
-        unfolding bears
-        bears-is = rw (node-on (nodeCount s) d (nodes-most s w) n) (sym o)
+      module _ (z : getD table (v * 64 + d) 0 ≡ 0 → ⊥) (ok : Bool)
+          (o : ok ≡ bears (nodeOf (roomOf s) d) (withVm here (vmOf (roomOf s) v)) (vmOf (roomOf s) v)) where
+        bears-is : bearsAt (roomOf s) d (withVm here (vmOf (roomOf s) v)) (vmOf (roomOf s) v) ≡ ok
+        bears-is = at-node (roomOf s) d (withVm here (vmOf (roomOf s) v)) (vmOf (roomOf s) v) (node-on (nodeCount s) d (nodes-most s w) n) ∙ sym o
 
         pub join-full : ok ≡ false → false ≡ joinsIn s places dests here v d
         unfolding joinsIn
@@ -153,11 +154,11 @@ module _ (s places dests : List ℕ) (step : Step) (here : Tally) (v d : ℕ) (w
     (sound : soundStep (roomOf s) (held s places) step ≡ true)
     (h : d < 64 → here ≡ tallyAt (roomOf s) d (allRunning (firstMoment (roomOf s) (held s places) step))) (t : v < vmCount s) (n : aims (roomOf s) v d ≡ true) where
   -- the tally of what is no node is not asked for
-  same-bears : bears (roomOf s) d (withVm here (vmOf (roomOf s) v)) ≡
-      bears (roomOf s) d (withVm (tallyAt (roomOf s) d (allRunning (firstMoment (roomOf s) (held s places) step))) (vmOf (roomOf s) v))
-  unfolding bears
+  same-bears : bearsAt (roomOf s) d (withVm here (vmOf (roomOf s) v)) (vmOf (roomOf s) v) ≡
+      bearsAt (roomOf s) d (withVm (tallyAt (roomOf s) d (allRunning (firstMoment (roomOf s) (held s places) step))) (vmOf (roomOf s) v)) (vmOf (roomOf s) v)
+  unfolding bearsAt
   same-bears =
-      by-cases (decLt d 64) (λ l. ap (λ (x : Tally). bears (roomOf s) d (withVm x (vmOf (roomOf s) v))) (h l))
+      by-cases (decLt d 64) (λ l. ap (λ (x : Tally). bearsAt (roomOf s) d (withVm x (vmOf (roomOf s) v)) (vmOf (roomOf s) v)) (h l))
       (λ l. rw (far-off (nodeCount s) d (nodes-most s w) (aims-place s v d n) (omega arith)))
 
   pub joins-is : joinsIn s places dests here v d ≡ joins (roomOf s) (held s places) step v d

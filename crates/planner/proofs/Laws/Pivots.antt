@@ -15,10 +15,11 @@ use Rattle.records.specs.Base.{pick, all}
 use Rattle.records.specs.Room.{Room, vmOf, nowhere, onNode}
 use Rattle.records.specs.Plan.{Move, Step}
 use Rattle.records.proofs.Laws.Bools.{and-left, and-right, and-both, bool-iff, all-head, all-tail}
-use Rattle.rules.specs.Moments.{Placement, placeOf, targetOf, after, bears, withVm, idle, cell, Moment, countsOn, tallyAt, phaseOf, cellsFrom, firstMoment, begun, allRunning}
+use Rattle.rules.specs.Moments.{Placement, placeOf, targetOf, after, bearsAt, withVm, staying, cell, Moment, countsOn, tallyAt, phaseOf, cellsFrom, firstMoment, begun, allRunning}
 use Rattle.rules.specs.Orders.{some, meetsMate}
 use Rattle.rules.specs.Rules.{from, aims, soundStep}
 use Rattle.rules.proofs.Laws.Meet.{is-false}
+use Rattle.rules.specs.declared.tally.Tally.{Tally}
 use Rattle.rules.proofs.Laws.Orders.{never, Under, empty, both, meets-under, bears-under}
 use Rattle.rules.proofs.Laws.Adding.{joins, Joins, joins-tests, alone, empty-sound}
 use Rattle.planner.specs.Picks.{vmsIn, nodesIn, away, moving, canGo, otherGoes, useful, orElse, pivotAmong, pivotFirst, pivotStep}
@@ -226,14 +227,15 @@ rest-under d p q s k zero = empty
 rest-under d p q s k (suc n) = both (λ e. eq-eqb (placeOf q k) d (s k (eqb-true (placeOf p k) d e))) (rest-under d p q s (suc k) n)
 
 -- a tally with one VM more is the tally with that VM at rest there
-with-one : (room : Room) (d v : ℕ) (cs : Moment) → tallyAt room d (cell v d idle ∷ cs) ≡ withVm (tallyAt room d cs) (vmOf room v)
+with-one : (room : Room) (d v : ℕ) (cs : Moment) → tallyAt room d (cell v d staying ∷ cs) ≡ withVm (tallyAt room d cs) (vmOf room v)
 unfolding tallyAt countsOn
 with-one room d v cs = rw (eq-eqb d d refl)
 
 fit-under : {d : ℕ} {cs bs : Moment} (room : Room) (v : ℕ) → Under d cs bs →
-    bears room d (withVm (tallyAt room d bs) (vmOf room v)) ≡ true → bears room d (withVm (tallyAt room d cs) (vmOf room v)) ≡ true
+    bearsAt room d (withVm (tallyAt room d bs) (vmOf room v)) (vmOf room v) ≡ true → bearsAt room d (withVm (tallyAt room d cs) (vmOf room v)) (vmOf room v) ≡ true
 fit-under {d} {cs} {bs} room v u e =
-    rw (← with-one room d v cs) (bears-under room (both {v = v} {p = d} {q = d} {x = idle} {y = idle} (λ h. h) u) (ap (bears room d) (with-one room d v bs) ∙ e))
+    rw (← with-one room d v cs)
+    (bears-under room (vmOf room v) (both {v = v} {p = d} {q = d} {x = staying} {y = staying} (λ h. h) u) (ap (λ (x : Tally). bearsAt room d x (vmOf room v)) (with-one room d v bs) ∙ e))
 
 module _ (room : Room) (p q : Placement) (u : ℕ) (same : placeOf p u ≡ placeOf q u) where
   -- a sound move of u at p is sound at q, if q has no VM more on its destination

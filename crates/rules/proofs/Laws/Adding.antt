@@ -9,13 +9,15 @@ use lib.ListN.{length, getD}
 use lib.Dec.{ltb, eqb}
 use borrow.Author.Tests.{ltb-true, eqb-true, eqb-false, not-true, lt-ltb, eq-eqb, ne-eqb}
 use Rattle.records.specs.Base.{pick, all}
-use Rattle.records.specs.Room.{Constraint, ban, fence, spread, latency, has, Room, vmOf, onNode}
+use Rattle.records.specs.Room.{Constraint, ban, fence, spread, latency, has, Room, nodeOf, vmOf, onNode}
 use Rattle.records.specs.Plan.{Move, Step, noMove, moveOf}
 use Rattle.records.specs.declared.plan.Source.the-variants.{Unnamed}
 use Rattle.records.proofs.Laws.Bools.{and-left, and-right, and-both, pick-same, bool-iff, all-head, all-tail, all-at, all-append}
-use Rattle.rules.specs.Moments.{Placement, placeOf, bears, withVm, Phase, idle, waiting, Cell, cell, Moment, numberOf, countsOn, tallyAt, phaseOf, cellsFrom, firstMoment, begun, allRunning}
+use Rattle.rules.specs.Moments.{Placement, placeOf, withinMemory, within, bears, bearsAt, withVm, Phase, staying, waiting, Cell, cell, Moment, numberOf, countsOn, tallyAt, phaseOf, cellsFrom, firstMoment, begun, allRunning}
 use Rattle.rules.specs.Orders.{spreads, some, mates, meetsMate}
 use Rattle.rules.specs.Rules.{allowed, aims, named, permitted, fitting, unmet, soundStep}
+use Rattle.rules.specs.declared.tally.Tally.{Tally}
+use Rattle.rules.proofs.Laws.Bears.{at-node, bears-idle, bears-active, bears-beside}
 use Rattle.rules.proofs.Laws.Orders.{named-least, named-vm, named-sends, named-off, named-rest, named-cons, load, memoryIn, cpuIn, memory-load, cpu-load, not-own-mate, phase-at}
 use Rattle.rules.proofs.Laws.Sound.{sound-named, sound-permitted, sound-fitting, sound-unmet, sound-tests, all-more}
 use Rattle.rules.proofs.Laws.Meet.{all-intro}
@@ -57,13 +59,13 @@ phase-own (move ∷ moves) v d a =
     let m : move .vm ≡ v → ⊥ = λ e. omega arith in
     rw (ne-eqb (move .vm) v m) (phase-own moves v d (all-tail (λ move. ltb (move .vm) v) move moves a))
 
-pub phase-idle : (step : Step) (v : ℕ) → all (λ move. ltb (move .vm) v) step ≡ true → phaseOf step v ≡ idle
+pub phase-staying : (step : Step) (v : ℕ) → all (λ move. ltb (move .vm) v) step ≡ true → phaseOf step v ≡ staying
 unfolding phaseOf
-phase-idle [] v a = refl
-phase-idle (move ∷ moves) v a =
+phase-staying [] v a = refl
+phase-staying (move ∷ moves) v a =
     let h = ltb-true (move .vm) v (all-head (λ move. ltb (move .vm) v) move moves a) in
     let m : move .vm ≡ v → ⊥ = λ e. omega arith in
-    rw (ne-eqb (move .vm) v m) (phase-idle moves v (all-tail (λ move. ltb (move .vm) v) move moves a))
+    rw (ne-eqb (move .vm) v m) (phase-staying moves v (all-tail (λ move. ltb (move .vm) v) move moves a))
 
 -- ---- what counts where with every move of the longer step running
 
@@ -74,7 +76,7 @@ module _ (places : Placement) (step : Step) (v d : ℕ) (a : all (λ move. ltb (
 
   counts-old : (e : ℕ) → countsOn e (cell v (placeOf places v) (begun (phaseOf step v))) ≡ eqb (placeOf places v) e
   unfolding begun countsOn
-  counts-old e = rw (phase-idle step v a)
+  counts-old e = rw (phase-staying step v a)
 
   counts-other : (e k : ℕ) → (v ≡ k → ⊥) →
       countsOn e (cell k (placeOf places k) (begun (phaseOf (longer step v d) k))) ≡ countsOn e (cell k (placeOf places k) (begun (phaseOf step k)))
@@ -247,12 +249,18 @@ named-longer room places least (move ∷ moves) v d n a l t b o =
 
 -- ---- the test of the new move alone
 
-unfoldable pub joins : Room → Placement → Step → ℕ → ℕ → Bool
-joins room places step v d =
+-- `fit` is the test of the sums
+abbrev pub joinsIf : Bool → Room → Placement → Step → ℕ → ℕ → Bool
+joinsIf fit room places step v d =
     (ltb v (length (room .vms)) && (aims room v d && not (eqb d (placeOf places v)))) &&
-    (allowed room v d &&
-    (bears room d (withVm (tallyAt room d (allRunning (firstMoment room places step))) (vmOf room v)) &&
-    not (meetsMate room (allRunning (firstMoment room places step)) v d)))
+    (allowed room v d && (fit && not (meetsMate room (allRunning (firstMoment room places step)) v d)))
+
+-- what its destination holds with it
+abbrev pub joinedTally : Room → Placement → Step → ℕ → ℕ → Tally
+joinedTally room places step v d = withVm (tallyAt room d (allRunning (firstMoment room places step))) (vmOf room v)
+
+unfoldable pub joins : Room → Placement → Step → ℕ → ℕ → Bool
+joins room places step v d = joinsIf (bearsAt room d (joinedTally room places step v d) (vmOf room v)) room places step v d
 
 -- what a move that joins passes
 pub record Joins (room : Room) (places : Placement) (step : Step) (v d : ℕ) : Type 0 where
@@ -260,7 +268,7 @@ pub record Joins (room : Room) (places : Placement) (step : Step) (v d : ℕ) : 
   pub aimed : aims room v d ≡ true
   pub off : not (eqb d (placeOf places v)) ≡ true
   pub allows : allowed room v d ≡ true
-  pub fit : bears room d (withVm (tallyAt room d (allRunning (firstMoment room places step))) (vmOf room v)) ≡ true
+  pub fit : bearsAt room d (withVm (tallyAt room d (allRunning (firstMoment room places step))) (vmOf room v)) (vmOf room v) ≡ true
   pub apart : meetsMate room (allRunning (firstMoment room places step)) v d ≡ false
 
 pub joins-tests : (room : Room) (places : Placement) (step : Step) (v d : ℕ) → joins room places step v d ≡ true → Joins room places step v d
@@ -268,7 +276,7 @@ unfolding joins
 joins-tests room places step v d e =
     let there : Bool = ltb v (length (room .vms)) in
     let to : Bool = aims room v d && not (eqb d (placeOf places v)) in
-    let f : Bool = bears room d (withVm (tallyAt room d (allRunning (firstMoment room places step))) (vmOf room v)) in
+    let f : Bool = bearsAt room d (withVm (tallyAt room d (allRunning (firstMoment room places step))) (vmOf room v)) (vmOf room v) in
     let m : Bool = meetsMate room (allRunning (firstMoment room places step)) v d in
     let x : (there && to) ≡ true = and-left (there && to) (allowed room v d && (f && not m)) e in
     let y : (allowed room v d && (f && not m)) ≡ true = and-right (there && to) (allowed room v d && (f && not m)) e in
@@ -321,9 +329,9 @@ module _ (room : Room) (places : Placement) (step : Step) (v d : ℕ) (a : all (
       p : allowed room v d ≡ true
       p = last (λ move. allowed room (move .vm) (move .to)) (sound-permitted room places (longer step v d) s)
 
-      f : bears room d (withVm (tallyAt room d (allRunning (firstMoment room places step))) (vmOf room v)) ≡ true
-      f = sym (ap (bears room d) (tally-there room places step v d a t o)) ∙
-          last (λ move. bears room (move .to) (tallyAt room (move .to) (allRunning (firstMoment room places (longer step v d))))) (sound-fitting room places (longer step v d) s)
+      f : bearsAt room d (withVm (tallyAt room d (allRunning (firstMoment room places step))) (vmOf room v)) (vmOf room v) ≡ true
+      f = sym (ap (λ (x : Tally). bearsAt room d x (vmOf room v)) (tally-there room places step v d a t o)) ∙
+          last (λ move. bearsAt room (move .to) (tallyAt room (move .to) (allRunning (firstMoment room places (longer step v d)))) (vmOf room (move .vm))) (sound-fitting room places (longer step v d) s)
 
       u : not (meetsMate room (allRunning (firstMoment room places step)) v d) ≡ true
       u = sym (ap not (meets-own room places step v d a t)) ∙
@@ -349,19 +357,25 @@ module _ (room : Room) (places : Placement) (step : Step) (v d : ℕ) (a : all (
       p : all (λ move. allowed room (move .vm) (move .to)) (longer step v d) ≡ true
       p = more (λ move. allowed room (move .vm) (move .to)) (sound-permitted room places step s) (j .allows)
 
-      there : bears room d (tallyAt room d (allRunning (firstMoment room places (longer step v d)))) ≡ true
-      there = ap (bears room d) (tally-there room places step v d a (j .vm-there) o) ∙ j .fit
+      there : bearsAt room d (tallyAt room d (allRunning (firstMoment room places (longer step v d)))) (vmOf room v) ≡ true
+      there = ap (λ (x : Tally). bearsAt room d x (vmOf room v)) (tally-there room places step v d a (j .vm-there) o) ∙ j .fit
 
-      anywhere : (x : Bool) (e : ℕ) → eqb d e ≡ x → bears room e (tallyAt room e (allRunning (firstMoment room places step))) ≡ true →
-          bears room e (tallyAt room e (allRunning (firstMoment room places (longer step v d)))) ≡ true
-      anywhere true e t h = rw (← eqb-true d e t) there
-      anywhere false e t h = ap (bears room e) (tally-else room places step v d a (j .vm-there) o e (eqb-false d e t)) ∙ h
+      -- v beside an older arrival w on d, and away from one elsewhere
+      anywhere : (x : Bool) (w e : ℕ) → eqb d e ≡ x → bearsAt room e (tallyAt room e (allRunning (firstMoment room places step))) (vmOf room w) ≡ true →
+          bearsAt room e (tallyAt room e (allRunning (firstMoment room places (longer step v d)))) (vmOf room w) ≡ true
+      anywhere true w e t h =
+          let k : bearsAt room d (tallyAt room d (allRunning (firstMoment room places step))) (vmOf room w) ≡ true = rw (← eqb-true d e t) at h in
+          rw (← eqb-true d e t)
+          (ap (λ (x : Tally). bearsAt room d x (vmOf room w)) (tally-there room places step v d a (j .vm-there) o) ∙
+          bears-beside room d (tallyAt room d (allRunning (firstMoment room places step))) (vmOf room v) (vmOf room w) k (j .fit))
+      anywhere false w e t h =
+          ap (λ (x : Tally). bearsAt room e x (vmOf room w)) (tally-else room places step v d a (j .vm-there) o e (eqb-false d e t)) ∙ h
 
-      f : all (λ move. bears room (move .to) (tallyAt room (move .to) (allRunning (firstMoment room places (longer step v d))))) (longer step v d) ≡ true
-      f = more (λ move. bears room (move .to) (tallyAt room (move .to) (allRunning (firstMoment room places (longer step v d)))))
-          (all-more (λ move. bears room (move .to) (tallyAt room (move .to) (allRunning (firstMoment room places step))))
-          (λ move. bears room (move .to) (tallyAt room (move .to) (allRunning (firstMoment room places (longer step v d)))))
-          (λ move h. anywhere (eqb d (move .to)) (move .to) refl h) step (sound-fitting room places step s)) there
+      f : all (λ move. bearsAt room (move .to) (tallyAt room (move .to) (allRunning (firstMoment room places (longer step v d)))) (vmOf room (move .vm))) (longer step v d) ≡ true
+      f = more (λ move. bearsAt room (move .to) (tallyAt room (move .to) (allRunning (firstMoment room places (longer step v d)))) (vmOf room (move .vm)))
+          (all-more (λ move. bearsAt room (move .to) (tallyAt room (move .to) (allRunning (firstMoment room places step))) (vmOf room (move .vm)))
+          (λ move. bearsAt room (move .to) (tallyAt room (move .to) (allRunning (firstMoment room places (longer step v d)))) (vmOf room (move .vm)))
+          (λ move h. anywhere (eqb d (move .to)) (move .vm) (move .to) refl h) step (sound-fitting room places step s)) there
 
       -- v is no mate of an older arrival on d
       clear : (n x y : Bool) (w e : ℕ) → onNode e ≡ n → phaseOf step w ≡ waiting e → w < length (room .vms) → mates room w v ≡ x → eqb d e ≡ y → pick n (x && y) false ≡ false
@@ -393,6 +407,24 @@ pub adding : (room : Room) (places : Placement) (step : Step) (v d : ℕ) → so
 adding room places step v d s a =
     bool-iff (soundStep room places (longer step v d)) (joins room places step v d) (sound-joins room places step v d a) (joins-sound room places step v d a s)
 
+-- to a node, by the VM: an idle one joins by the memory alone, an active one by both sums, in which the idle ones beside it count with theirs
+module _ (room : Room) (places : Placement) (step : Step) (v d : ℕ) (s : soundStep room places step ≡ true) (a : all (λ move. ltb (move .vm) v) step ≡ true)
+    (n : onNode d ≡ true) where
+  by-vm : (fit : Bool) → bears (nodeOf room d) (joinedTally room places step v d) (vmOf room v) ≡ fit →
+      soundStep room places (longer step v d) ≡ joinsIf fit room places step v d
+  unfolding joins
+  by-vm fit e =
+      adding room places step v d s a ∙
+      ap (λ (b : Bool). joinsIf b room places step v d) (at-node room d (joinedTally room places step v d) (vmOf room v) n ∙ e)
+
+  pub idle-joins : vmOf room v .cpu ≡ 0 →
+      soundStep room places (step ++ (record { vm = v; source = Unnamed; to = d } ∷ [])) ≡ joinsIf (withinMemory (nodeOf room d) (joinedTally room places step v d)) room places step v d
+  idle-joins z = by-vm (withinMemory (nodeOf room d) (joinedTally room places step v d)) (bears-idle (nodeOf room d) (joinedTally room places step v d) (vmOf room v) z)
+
+  pub active-joins : (vmOf room v .cpu ≡ 0 → ⊥) →
+      soundStep room places (step ++ (record { vm = v; source = Unnamed; to = d } ∷ [])) ≡ joinsIf (within (nodeOf room d) (joinedTally room places step v d)) room places step v d
+  active-joins h = by-vm (within (nodeOf room d) (joinedTally room places step v d)) (bears-active (nodeOf room d) (joinedTally room places step v d) (vmOf room v) h)
+
 -- ---- the step without moves, and the step of one move
 
 pub empty-sound : (room : Room) (places : Placement) → soundStep room places [] ≡ true
@@ -407,7 +439,7 @@ alone room places v d = adding room places [] v d (empty-sound room places) refl
 running-none : (places : Placement) (k n : ℕ) → allRunning (cellsFrom places [] k n) ≡ cellsFrom places [] k n
 unfolding cellsFrom allRunning phaseOf begun
 running-none places k zero = refl
-running-none places k (suc n) = ap (λ (cs : Moment). cell k (placeOf places k) idle ∷ cs) (running-none places (suc k) n)
+running-none places k (suc n) = ap (λ (cs : Moment). cell k (placeOf places k) staying ∷ cs) (running-none places (suc k) n)
 
 pub empty-running : (room : Room) (places : Placement) → allRunning (firstMoment room places []) ≡ firstMoment room places []
 unfolding firstMoment

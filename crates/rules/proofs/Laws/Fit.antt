@@ -1,6 +1,6 @@
 -- Laws on refusal 17: the pass over the destinations, and the sums as the tallies of the moment when every move runs.
 use Prim.Native.Nat.{ℕ, zero, suc, _+_, _-_, _≤_, _<_}
-use mathlib.Core.Bool.{Bool, true, false, not, _&&_, _||_, or-true}
+use mathlib.Core.Bool.{Bool, true, false, not, _&&_, _||_, or-true, or-false}
 use mathlib.Core.List.{List, [], _∷_}
 use mathlib.Core.Logic.{_⊎_, inl, inr, ⊎-elim, by-cases}
 use mathlib.Core.Path.{_≡_, refl, sym, ap, ap₂, _∙_}
@@ -10,62 +10,86 @@ use native.Mathlib.Omega.{arith}
 use lib.ListN.{length, getD, set, drop, length-set, length-replicate, getD-replicate, drop-of-length-le}
 use lib.Seq.{getD-take, getD-set-same, getD-set-other}
 use lib.Dec.{ltb, leb, eqb}
-use borrow.Author.Tests.{le-leb, lt-leb, ltb-true, eq-eqb, ne-eqb, eqb-false, not-true}
+use borrow.Author.Tests.{ltb-true, eq-eqb, ne-eqb, eqb-false, not-true}
 use Rattle.records.specs.Base.{all}
-use Rattle.records.specs.Room.{Room, Node, nodeOf, nowhere, roomOf, nodeCount, vmCount, placeOk, clusterCheck}
+use Rattle.records.specs.Room.{Room, Node, Vm, nodeOf, vmOf, nowhere, roomOf, nodeCount, vmCount, placeOk, clusterCheck}
 use Rattle.records.specs.Plan.{Move, Step, moveOf, moveCount, stepAt}
 use Rattle.records.specs.declared.faults.ClusterCheck.the-variants.{Whole}
 use Rattle.records.proofs.Laws.Bools.{and-left, and-right, and-both}
 use Rattle.records.proofs.Laws.Cluster.{nodes-most, vms-most, vms-count, nodes-count}
 use Rattle.records.proofs.Laws.Rows.{near-node, near-on, far-off, not-between, place-more}
 use Rattle.records.proofs.Laws.Steps.{step-length}
-use Rattle.rules.specs.Moments.{Placement, placeOf, targetOf, waiting, emptyTally, within, bears, tallyAt, phaseOf, cellsFrom, firstMoment, begun, allRunning}
+use Rattle.rules.specs.Moments.{Placement, placeOf, targetOf, waiting, emptyTally, withinMemory, withinCpu, within, isIdle, bears, bearsAt, tallyAt, phaseOf, cellsFrom, firstMoment, begun, allRunning}
 use Rattle.rules.specs.Rules.{aims, named, fitting}
-use Rattle.rules.specs.Inner.{held, destsFrom, goalIn, busyFrom, Ready, Loads, Aimed, fitsIn}
+use Rattle.rules.specs.Inner.{held, destsFrom, goalIn, busyFrom, Ready, Loads, Aimed, borneIn, fitsIn}
 use Rattle.rules.specs.declared.tally.Tally.{Tally}
 use Rattle.rules.proofs.Laws.Places.{step-cons}
 
--- ---- a tally within a node
+-- ---- the sums of a node
 
-module _ (node : Node) (t : Tally) (memory : ℕ) (e : memory ≡ node .memory) where
-  pub within-memory : memory < t .memory → false ≡ within node t
-  unfolding within
-  within-memory h = let w : node .memory < t .memory = omega arith in simp (lt-leb (t .memory) (node .memory) w)
+pub leb-to : (x a b : ℕ) → a ≡ b → leb x a ≡ leb x b
+leb-to x a b e = ap (leb x) e
 
-  pub within-cpu : (cpu : ℕ) → cpu ≡ node .cpu → t .memory ≤ memory → leb (t .cpu) cpu ≡ within node t
+module _ (node : Node) (t : Tally) (vm : Vm) (ok : Bool) (e : ok ≡ withinMemory node t) where
+  pub within-not : ok ≡ false → false ≡ within node t
   unfolding within
-  within-cpu cpu f h = let w : t .memory ≤ node .memory = omega arith in simp (f, le-leb (t .memory) (node .memory) w)
+  within-not o = rw (sym e ∙ o)
+
+  pub within-both : (sum : Bool) → sum ≡ withinCpu node t → ok ≡ true → sum ≡ within node t
+  unfolding within
+  within-both sum f o = rw (sym e ∙ o, f)
+
+  -- the memory is over: nobody is borne
+  pub bears-over : ok ≡ false → false ≡ bears node t vm
+  unfolding bears
+  bears-over o = rw (sym e ∙ o)
+
+  module _ (o : ok ≡ true) (sum : Bool) (f : sum ≡ withinCpu node t) where
+    pub bears-fit : sum ≡ true → true ≡ bears node t vm
+    unfolding bears
+    bears-fit c = rw (sym e ∙ o, sym f ∙ c, or-true (isIdle vm))
+
+    -- the CPU is over: an idle VM is borne
+    pub bears-if-idle : (cpu : ℕ) → cpu ≡ vm .cpu → sum ≡ false → eqb cpu 0 ≡ bears node t vm
+    unfolding bears
+    bears-if-idle cpu g c = rw (sym e ∙ o, sym f ∙ c, g, or-false (isIdle vm))
 
 -- ---- the pass over the destinations
 
-module _ (s plan : List ℕ) (at i n d : ℕ) (h : i < n) (q : n ≡ moveCount plan at) (e : d ≡ moveOf (stepAt plan at) i .to) (a : Aimed s (stepAt plan at))
-    (w : clusterCheck s ≡ Whole) where
+module _ (s plan : List ℕ) (at i d : ℕ) (e : d ≡ moveOf (stepAt plan at) i .to) (h : i < moveCount plan at) (a : Aimed s (stepAt plan at)) (w : clusterCheck s ≡ Whole) where
+  inside : i < length (stepAt plan at)
+  inside = rw (step-length plan at) h
+
   aimed-place : placeOk true (nodeCount s) d ≡ true
-  aimed-place = rw e (a .each i (rw (step-length plan at) (omega arith)))
+  aimed-place = rw e (a .each i inside)
 
   pub aimed-below : d < 64 → d < nodeCount s
   aimed-below k = near-node (nodeCount s) d (nodes-most s w) aimed-place k
 
-  module _ (sums : List Tally) (result : Bool) (inv : fitsIn (roomOf s) sums (drop i (stepAt plan at)) ≡ result) where
-    opened : (bears (roomOf s) d (getD sums d emptyTally) && fitsIn (roomOf s) sums (drop (suc i) (stepAt plan at))) ≡ result
-    unfolding fitsIn all
-    opened = let k : i < moveCount plan at = omega arith in rw e (simp (step-cons plan at i k) at inv)
+  -- to no node: it always fits
+  pub borne-off : (here : Tally) → 64 ≤ d → true ≡ borneIn (roomOf s) here (moveOf (stepAt plan at) i)
+  unfolding bearsAt
+  borne-off here k = rw (← e, far-off (nodeCount s) d (nodes-most s w) aimed-place k)
 
-    -- to no node: it always fits
-    pub fits-off : 64 ≤ d → fitsIn (roomOf s) sums (drop (i + 1) (stepAt plan at)) ≡ result
-    unfolding bears
-    fits-off k = rw add-one (rw (far-off (nodeCount s) d (nodes-most s w) aimed-place k) at opened)
+  module _ (v : ℕ) (g : v ≡ moveOf (stepAt plan at) i .vm) where
+    pub aimed-vm : v < vmCount s
+    aimed-vm = rw g (a .vms i inside)
 
-    module _ (k : d < 64) (ok : Bool) (f : ok ≡ within (nodeOf (roomOf s) d) (getD sums d emptyTally)) where
-      opened-node : (ok && fitsIn (roomOf s) sums (drop (suc i) (stepAt plan at))) ≡ result
-      unfolding bears
-      opened-node = rw f (rw (near-on (nodeCount s) d (nodes-most s w) aimed-place k) at opened)
+    pub borne-node : (here : Tally) (ok : Bool) → ok ≡ bears (nodeOf (roomOf s) d) here (vmOf (roomOf s) v) → d < 64 → ok ≡ borneIn (roomOf s) here (moveOf (stepAt plan at) i)
+    unfolding bearsAt
+    borne-node here ok f k = rw (← e, ← g, near-on (nodeCount s) d (nodes-most s w) aimed-place k) f
 
-      pub fits-not : ok ≡ false → false ≡ result
-      fits-not o = simp o at opened-node
+module _ (s plan : List ℕ) (at i n to d : ℕ) (h : i < n) (q : n ≡ moveCount plan at) (e : to ≡ moveOf (stepAt plan at) i .to) (c : d ≡ to) (sums : List Tally) (result ok : Bool)
+    (inv : fitsIn (roomOf s) sums (drop i (stepAt plan at)) ≡ result) (f : ok ≡ borneIn (roomOf s) (getD sums d emptyTally) (moveOf (stepAt plan at) i)) where
+  opened : (ok && fitsIn (roomOf s) sums (drop (suc i) (stepAt plan at))) ≡ result
+  unfolding fitsIn all
+  opened = let k : i < moveCount plan at = omega arith in rw (f, c, e) (simp (step-cons plan at i k) at inv)
 
-      pub fits-more : ok ≡ true → fitsIn (roomOf s) sums (drop (i + 1) (stepAt plan at)) ≡ result
-      fits-more o = rw add-one (simp o at opened-node)
+  pub fits-not : ok ≡ false → false ≡ result
+  fits-not o = simp o at opened
+
+  pub fits-more : ok ≡ true → fitsIn (roomOf s) sums (drop (i + 1) (stepAt plan at)) ≡ result
+  fits-more o = rw add-one (simp o at opened)
 
 pub fits-end : (s plan : List ℕ) (at i n : ℕ) (sums : List Tally) (result : Bool) → n ≡ moveCount plan at → fitsIn (roomOf s) sums (drop i (stepAt plan at)) ≡ result →
     n ≤ i → true ≡ result
@@ -207,14 +231,16 @@ module _ (s : List ℕ) (places : Placement) where
 
 -- tests of tallies that agree on all nodes below 64
 each-same : (sums : List Tally) (tally : ℕ → Tally) (room : Room) (step : Step) → far step ≡ true → ((d : ℕ) → d < 64 → getD sums d emptyTally ≡ tally d) →
-    all (λ move. bears room (move .to) (getD sums (move .to) emptyTally)) step ≡ all (λ move. bears room (move .to) (tally (move .to))) step
-unfolding far all bears
+    all (λ move. bearsAt room (move .to) (getD sums (move .to) emptyTally) (vmOf room (move .vm))) step ≡
+    all (λ move. bearsAt room (move .to) (tally (move .to)) (vmOf room (move .vm))) step
+unfolding far all bearsAt
 each-same sums tally room [] f e = refl
 each-same sums tally room (move ∷ moves) f e =
     ap₂ (λ (x y : Bool). x && y) (one (and-left (placeOk true 64 (move .to)) (all (λ m. placeOk true 64 (m .to)) moves) f))
     (each-same sums tally room moves (and-right (placeOk true 64 (move .to)) (all (λ m. placeOk true 64 (m .to)) moves) f) e)
   where
-    one : placeOk true 64 (move .to) ≡ true → bears room (move .to) (getD sums (move .to) emptyTally) ≡ bears room (move .to) (tally (move .to))
+    one : placeOk true 64 (move .to) ≡ true →
+        bearsAt room (move .to) (getD sums (move .to) emptyTally) (vmOf room (move .vm)) ≡ bearsAt room (move .to) (tally (move .to)) (vmOf room (move .vm))
     one p =
         by-cases (decLt (move .to) 64) (λ h. rw (e (move .to) h))
         (λ h. let k : 64 ≤ move .to = omega arith in rw (far-off 64 (move .to) (omega arith) p k))

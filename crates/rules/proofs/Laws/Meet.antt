@@ -17,7 +17,7 @@ use Rattle.records.specs.declared.faults.ClusterCheck.the-variants.{Whole}
 use Rattle.records.proofs.Laws.Bools.{and-left, and-right, and-both, bool-iff, all-at, all-and}
 use Rattle.records.proofs.Laws.Cluster.{undamaged, nodes-most, vms-most, vms-count}
 use Rattle.records.proofs.Laws.Rows.{node-on, near-on, far-off}
-use Rattle.rules.specs.Moments.{Placement, placeOf, Phase, idle, waiting, running, Cell, cell, Moment, numberOf, countsOn, phaseOf, firstMoment, allRunning}
+use Rattle.rules.specs.Moments.{Placement, placeOf, Phase, waiting, running, Cell, cell, Moment, numberOf, countsOn, phaseOf, firstMoment, allRunning}
 use Rattle.rules.specs.Orders.{spreads, some, mates, meetsMate}
 use Rattle.rules.specs.Rules.{named, unmet}
 use Rattle.rules.specs.Inner.{held, destsFrom, goalIn, busyFrom, Ready, startMarks, goUnmet, listUnmet, spreadOk}
@@ -218,11 +218,11 @@ go-arrives marks dests (x ∷ xs) f k z =
     (λ l. ap (λ (b : Bool). pick b (pick (eqb (getD marks e 0) 0) (goUnmet (set marks e 1) dests xs) false) (goUnmet marks dests xs)) (lt-ltb e 64 l) ∙
     rw (k .each e l, mark-flag (f e), go-arrives (set marks e 1) dests xs (λ d. atNode e d || f d) (marks-set marks f e k) far) (pick-and (not (f e)) _))
     (λ l. ap (λ (b : Bool). pick b (pick (eqb (getD marks e 0) 0) (goUnmet (set marks e 1) dests xs) false) (goUnmet marks dests xs)) (le-ltb e 64 (omega arith)) ∙
-    rw (z e (omega arith)) (go-arrives marks dests xs (λ d. atNode e d || f d) (idle e (omega arith)) far))
+    rw (z e (omega arith)) (go-arrives marks dests xs (λ d. atNode e d || f d) (unmarked e (omega arith)) far))
   where
     -- no node, no mark
-    idle : (e : ℕ) → 64 ≤ e → Marks marks (λ d. atNode e d || f d)
-    idle e h = record {
+    unmarked : (e : ℕ) → 64 ≤ e → Marks marks (λ d. atNode e d || f d)
+    unmarked e h = record {
       size = k .size;
       each = λ d l. k .each d l ∙ ap (λ (c : Bool). pick (c || f d) 1 0) (sym (ap (λ (b : Bool). eqb e d && b) (le-ltb e 64 h) ∙ and-false (eqb e d)));
     }

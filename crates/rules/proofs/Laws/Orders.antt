@@ -11,13 +11,15 @@ use lib.Seq.{getD-set-same, getD-set-other, ext-getD}
 use lib.Dec.{leb, ltb, eqb}
 use borrow.Author.Tests.{leb-true, ltb-true, eqb-true, eqb-false, not-true, not-false, le-leb, lt-ltb, eq-eqb, ne-eqb}
 use Rattle.records.specs.Base.{pick, all}
-use Rattle.records.specs.Room.{Node, Room, vmOf, nodeOf, onNode}
+use Rattle.records.specs.Room.{Vm, Room, vmOf, onNode}
 use Rattle.records.specs.Plan.{Move, Step, moveOf}
 use Rattle.records.proofs.Laws.Bools.{and-left, and-right, and-both, all-head, all-tail}
-use Rattle.rules.specs.Moments.{Placement, placeOf, after, within, bears, withVm, Phase, idle, waiting, running, ended, Cell, cell, Moment, numberOf, countsOn, tallyAt, phaseOf, cellsFrom, firstMoment, begun, allRunning, rests, settled, leftAt, placesLeft}
+use Rattle.rules.specs.Moments.{Placement, placeOf, after, bearsAt, withVm, Phase, staying, waiting, running, ended, Cell, cell, Moment, numberOf, countsOn, tallyAt, phaseOf, cellsFrom, firstMoment, begun, allRunning, rests, settled, leftAt, placesLeft}
 use Rattle.rules.specs.Orders.{Act, begin, finish, Event, begins, ends, later, Order, done, next, fits, some, mates, meetsMate, EachBegin, SomeBegin}
 use Rattle.rules.specs.Rules.{allowed, aims, named, permitted, fitting, unmet}
 use Rattle.rules.specs.Promises.{SomeOrder}
+use Rattle.rules.specs.declared.tally.Tally.{Tally}
+use Rattle.rules.proofs.Laws.Bears.{bears-less}
 
 -- from two constructors that are equal (`cc` finds that 0 is 1) anything follows
 pub never : {A : Type 0} → _≡_ {A = ℕ} 0 1 → A
@@ -160,7 +162,7 @@ under-busy d none = empty
 under-busy d (same {c = cell v p x} o) = both (counts x) (under-busy d o)
   where
     counts : (x : Phase) → countsOn d (cell v p x) ≡ true → countsOn d (cell v p (begun x)) ≡ true
-    counts idle e = e
+    counts staying e = e
     counts (waiting to) e = or-first (eqb to d) e
     counts (running to) e = e
     counts (ended to) e = e
@@ -187,7 +189,7 @@ some-joined P (next {a = finish v} e o) p s = some-joined P o p s
 -- every move begins
 run-cell : {cs : Moment} (v p : ℕ) (x : Phase) → Order (cell v p x ∷ cs) (cell v p (begun x) ∷ cs)
 unfolding begun
-run-cell v p idle = done
+run-cell v p staying = done
 run-cell v p (waiting d) = next begins done
 run-cell v p (running d) = done
 run-cell v p (ended d) = done
@@ -220,7 +222,7 @@ onward-order w (next e o) = onward-order (onward-event w e) o
 
 -- a move's destination is not its VM's place
 unfoldable pub travels : Cell → Bool
-travels (cell v p idle) = true
+travels (cell v p staying) = true
 travels (cell v p (waiting to)) = not (eqb to p)
 travels (cell v p (running to)) = not (eqb to p)
 travels (cell v p (ended to)) = not (eqb to p)
@@ -281,11 +283,11 @@ begin-tally {cs} {ds} {v} {d} room e t i = record {
   cpu = (ap (λ (n : ℕ). n + cpuIn room v) (cpu-load room d cs) ∙ begin-load (cpuIn room) e t ∙ sym (cpu-load room d ds)) i;
 }
 
--- a VM fits when it begins if its destination bears the tally behind its begin
+-- a VM fits when it begins if its destination bears the tally behind its begin for it
 pub begin-fits : {cs ds : Moment} {v d : ℕ} (room : Room) → Event cs (begin v d) ds → all travels cs ≡ true →
-    fits room cs v d ≡ bears room d (tallyAt room d ds)
+    fits room cs v d ≡ bearsAt room d (tallyAt room d ds) (vmOf room v)
 unfolding fits
-begin-fits {d = d} room e t = ap (bears room d) (begin-tally room e t)
+begin-fits {v = v} {d = d} room e t = ap (λ (x : Tally). bearsAt room d x (vmOf room v)) (begin-tally room e t)
 
 pub not-own-mate : (room : Room) (v : ℕ) → mates room v v ≡ false
 unfolding mates
@@ -295,23 +297,13 @@ pub begin-meets : {cs ds : Moment} {v d : ℕ} (room : Room) → Event cs (begin
 unfolding meetsMate
 begin-meets {v = v} {d = d} room e = ap (λ (b : Bool). pick (onNode d) b false) (begin-some (mates room v) (not-own-mate room v) e)
 
-pub within-under : {d : ℕ} {cs bs : Moment} (room : Room) (node : Node) → Under d cs bs →
-    within node (tallyAt room d bs) ≡ true → within node (tallyAt room d cs) ≡ true
-unfolding within
-within-under {d} {cs} {bs} room node u e =
-    let m = leb-true (tallyAt room d bs .memory) (node .memory) (and-left (leb (tallyAt room d bs .memory) (node .memory)) _ e) in
-    let c = leb-true (tallyAt room d bs .cpu) (node .cpu) (and-right (leb (tallyAt room d bs .memory) (node .memory)) _ e) in
-    let m' : tallyAt room d cs .memory ≤ node .memory = omega (arith, memory-load room d cs, memory-load room d bs, under-load (memoryIn room) u) in
-    let c' : tallyAt room d cs .cpu ≤ node .cpu = omega (arith, cpu-load room d cs, cpu-load room d bs, under-load (cpuIn room) u) in
-    and-both (le-leb (tallyAt room d cs .memory) (node .memory) m') (le-leb (tallyAt room d cs .cpu) (node .cpu) c')
-
-pub bears-under : {d : ℕ} {cs bs : Moment} (room : Room) → Under d cs bs → bears room d (tallyAt room d bs) ≡ true → bears room d (tallyAt room d cs) ≡ true
-unfolding bears
-bears-under {d} {cs} {bs} room u e = go (onNode d) e
-  where
-    go : (b : Bool) → pick b (within (nodeOf room d) (tallyAt room d bs)) true ≡ true → pick b (within (nodeOf room d) (tallyAt room d cs)) true ≡ true
-    go true h = within-under room (nodeOf room d) u h
-    go false h = refl
+-- where less counts, what is borne stays borne
+pub bears-under : {d : ℕ} {cs bs : Moment} (room : Room) (vm : Vm) → Under d cs bs →
+    bearsAt room d (tallyAt room d bs) vm ≡ true → bearsAt room d (tallyAt room d cs) vm ≡ true
+bears-under {d} {cs} {bs} room vm u e =
+    bears-less room d (tallyAt room d cs) (tallyAt room d bs) vm
+    (omega (arith, memory-load room d cs, memory-load room d bs, under-load (memoryIn room) u))
+    (omega (arith, cpu-load room d cs, cpu-load room d bs, under-load (cpuIn room) u)) e
 
 -- ---- a begin of an order is a move of the step
 
@@ -406,8 +398,8 @@ module _ (room : Room) (places : Placement) (step : Step) where
       fit : (cs ds : Moment) (v d : ℕ) → Onward first cs → Event cs (begin v d) ds → fits room cs v d ≡ true
       fit cs ds v d w e =
           begin-fits room e (travels-onward w (first-travels n)) ∙
-          bears-under room (under-busy d (onward-event w e))
-          (step-begin (λ v d. bears room d (tallyAt room d (allRunning first))) p w e)
+          bears-under room (vmOf room v) (under-busy d (onward-event w e))
+          (step-begin (λ v d. bearsAt room d (tallyAt room d (allRunning first)) (vmOf room v)) p w e)
 
   -- 18: in every order no VM meets a mate when it begins
   pub begins-apart : unmet room places step ≡ true → {end : Moment} (o : Order (firstMoment room places step) end) →
@@ -433,7 +425,7 @@ module _ (room : Room) (places : Placement) (step : Step) where
 
 -- every move over
 unfoldable pub overAt : Phase → Phase
-overAt idle = idle
+overAt staying = staying
 overAt (waiting d) = ended d
 overAt (running d) = ended d
 overAt (ended d) = ended d
@@ -444,7 +436,7 @@ allOver (cell v p x ∷ cs) = cell v p (overAt x) ∷ allOver cs
 
 end-cell : {cs : Moment} (v p : ℕ) (x : Phase) → Order (cell v p (begun x) ∷ cs) (cell v p (overAt x) ∷ cs)
 unfolding begun overAt
-end-cell v p idle = done
+end-cell v p staying = done
 end-cell v p (waiting d) = next ends done
 end-cell v p (running d) = next ends done
 end-cell v p (ended d) = done
@@ -460,7 +452,7 @@ over-settled [] = refl
 over-settled (cell v p x ∷ ws) = and-both (over-rests x) (over-settled ws)
   where
     over-rests : (x : Phase) → rests (cell v p (overAt x)) ≡ true
-    over-rests idle = refl
+    over-rests staying = refl
     over-rests (waiting d) = refl
     over-rests (running d) = refl
     over-rests (ended d) = refl
@@ -575,7 +567,7 @@ module _ (room : Room) (places : Placement) (step : Step) where
 
   -- its begin fits, or meets a mate, as with every move running
   pub last-fits : named room places 0 step ≡ true → (v d : ℕ) (l : Last (firstMoment room places step) v d) →
-      fits room (l .before) v d ≡ bears room d (tallyAt room d (allRunning (firstMoment room places step)))
+      fits room (l .before) v d ≡ bearsAt room d (tallyAt room d (allRunning (firstMoment room places step))) (vmOf room v)
   last-fits n v d l =
       begin-fits room (l .event)
       (travels-onward (onward-order (onward-self (firstMoment room places step)) (l .order)) (first-travels room places step n))
@@ -594,7 +586,7 @@ module _ (room : Room) (places : Placement) (step : Step) where
     pub some-misfit : fitting room places step ≡ false → SomeOrder room places step (λ cs v d. fits room cs v d ≡ false)
     unfolding fitting
     some-misfit p =
-        let f = failing room places 0 step (λ v d. bears room d (tallyAt room d (allRunning (firstMoment room places step)))) n p in
+        let f = failing room places 0 step (λ v d. bearsAt room d (tallyAt room d (allRunning (firstMoment room places step))) (vmOf room v)) n p in
         let l = last-begin (f .vm) (f .to) (f .waits) (f .there) in
         some-last (λ cs v d. fits room cs v d ≡ false) (f .vm) (f .to) l (last-fits n (f .vm) (f .to) l ∙ f .fails)
 
@@ -610,7 +602,7 @@ module _ (room : Room) (places : Placement) (step : Step) where
 
 -- where a VM is once its move is over
 unfoldable pub goal : ℕ → Phase → ℕ
-goal p idle = p
+goal p staying = p
 goal p (waiting d) = d
 goal p (running d) = d
 goal p (ended d) = d
@@ -625,7 +617,7 @@ settled-left (same {c = cell v p x} {cs = cs} o) e =
     ap₂ _∷_ (rest x (and-left (rests (cell v p x)) (all rests cs) e)) (settled-left o (and-right (rests (cell v p x)) (all rests cs) e))
   where
     rest : (x : Phase) → rests (cell v p x) ≡ true → leftAt (cell v p x) ≡ goal p x
-    rest idle e = refl
+    rest staying e = refl
     rest (waiting d) e = absurd (false≢true e)
     rest (running d) e = absurd (false≢true e)
     rest (ended d) e = refl

@@ -1,6 +1,6 @@
 -- Wrong readings of the rules, each written beside the right one, and a small case that tells the two apart.
 use Prim.Native.Nat.{ℕ}
-use mathlib.Core.Bool.{Bool, true, false, not, _&&_}
+use mathlib.Core.Bool.{Bool, true, false, not, _&&_, _||_}
 use mathlib.Core.List.{[], _∷_}
 use mathlib.Core.Path.{_≡_, refl}
 use lib.ListN.{length}
@@ -9,10 +9,12 @@ use Rattle.records.specs.Base.{pick, all, sumOf}
 use Rattle.records.specs.Room.{Room, Vm, Node, fence, spread, has, vmsOf, nodeOf, vmOf, nowhere, onNode}
 use Rattle.records.specs.Plan.{Step}
 use Rattle.records.specs.declared.plan.Source.the-variants.{Unnamed}
-use Rattle.rules.specs.Moments.{Placement, currentOf, targetOf, after, within, bears, withVm, emptyTally, idle, waiting, running, ended, Cell, cell, Moment, numberOf, countsOn, tallyAt, phaseOf, cellsFrom, firstMoment, begun, allRunning}
+use Rattle.rules.specs.Moments.{Placement, currentOf, targetOf, after, withinMemory, withinCpu, within, isIdle, bears, bearsAt, withVm, emptyTally, staying, waiting, running, ended, Cell, cell, Moment, numberOf, countsOn, tallyAt, phaseOf, cellsFrom, firstMoment, begun, allRunning}
 use Rattle.rules.specs.Orders.{fits, spreads, some, mates, meetsMate}
-use Rattle.rules.specs.Rules.{from, keepsFrom, allowed, aims, named, isPlace, sourced, permitted, fitting, unmet, stepCheck, soundStep}
+use Rattle.rules.specs.Rules.{from, keepsFrom, allowed, aims, named, isPlace, sourced, permitted, fitting, unmet, stepCheck, soundStep, fitsAll, targetCheck}
 use Rattle.rules.specs.Cost.{memoryOf, stepCost, costFrom, costOf}
+use Rattle.rules.specs.declared.faults.TargetFault.the-variants.{Overfull}
+use Rattle.rules.specs.declared.faults.TargetCheck.the-variants.{Bad}
 use Rattle.rules.specs.declared.faults.StepFault.the-variants.{Misnamed, Misfit}
 use Rattle.rules.specs.declared.faults.StepCheck.the-variants.{Clear, Faulty}
 use Rattle.rules.specs.declared.tally.Tally.{Tally}
@@ -65,11 +67,32 @@ fenced = record { nodes = node 4 ∷ []; vms = vm 3 0 nowhere ∷ vm 2 nowhere 0
 unfoldable pub killed : Room
 killed = record { nodes = node 4 ∷ []; vms = vm 3 0 0 ∷ []; constraints = [] }
 
+-- VM 2 has more CPU than node 1, where it is, and is to go `away`; VM 0, which is idle, and VM 1, of CPU 1, are to come there from node 0. Node 1
+-- has so much memory; each VM takes 2 of it
+unfoldable pub busy : ℕ → ℕ → Room
+busy memory away = record {
+  nodes = node 9 ∷ node memory ∷ record { memory = 9; cpu = 200 } ∷ [];
+  vms = record { memory = 2; cpu = 0; current = 0; target = 1 } ∷ record { memory = 2; cpu = 1; current = 0; target = 1 } ∷ record { memory = 2; cpu = 150; current = 1; target = away } ∷ [];
+  constraints = [];
+}
+
+unfoldable pub idleComes : Step
+idleComes = record { vm = 0; source = Unnamed; to = 1 } ∷ []
+
+unfoldable pub activeComes : Step
+activeComes = record { vm = 1; source = Unnamed; to = 1 } ∷ []
+
+unfoldable pub bothCome : Step
+bothCome = record { vm = 0; source = Unnamed; to = 1 } ∷ record { vm = 1; source = Unnamed; to = 1 } ∷ []
+
+unfoldable pub leaves : Step
+leaves = record { vm = 2; source = Unnamed; to = 2 } ∷ []
+
 -- ---- the wrong readings
 
 -- the source is freed when a move begins
 unfoldable pub countsFreed : ℕ → Cell → Bool
-countsFreed d (cell v place idle) = eqb place d
+countsFreed d (cell v place staying) = eqb place d
 countsFreed d (cell v place (waiting to)) = eqb place d
 countsFreed d (cell v place (running to)) = eqb to d
 countsFreed d (cell v place (ended to)) = eqb to d
@@ -83,7 +106,7 @@ fitsFreed room cs v d = within (nodeOf room d) (withVm (tallyFreed room d cs) (v
 
 -- a departure in the same step pays for an arrival: the step is weighed once all its moves have ended
 unfoldable pub fittingEnded : Room → Placement → Step → Bool
-fittingEnded room places step = all (λ move. bears room (move .to) (tallyAt room (move .to) (allOver (firstMoment room places step)))) step
+fittingEnded room places step = all (λ move. bearsAt room (move .to) (tallyAt room (move .to) (allOver (firstMoment room places step))) (vmOf room (move .vm))) step
 
 -- spreads are tested at the step's end only
 unfoldable pub unmetEnded : Room → Placement → Step → Bool
@@ -92,6 +115,21 @@ unmetEnded room places step = all (λ move. not (meetsMate room (allOver (firstM
 -- an overfull start is refused: a move begins only if every node is within what it has
 unfoldable pub fitsEverywhere : Room → Moment → ℕ → ℕ → Bool
 fitsEverywhere room cs v d = fits room cs v d && all (λ e. within (nodeOf room e) (tallyAt room e cs)) (from 0 (length (room .nodes)))
+
+-- both sums are tested, whoever begins
+unfoldable pub fitsBoth : Room → Moment → ℕ → ℕ → Bool
+fitsBoth room cs v d = within (nodeOf room d) (withVm (tallyAt room d cs) (vmOf room v))
+
+-- the memory alone is, whoever begins
+unfoldable pub fitsMemory : Room → Moment → ℕ → ℕ → Bool
+fitsMemory room cs v d = withinMemory (nodeOf room d) (withVm (tallyAt room d cs) (vmOf room v))
+
+-- an idle VM takes the test of the CPU from those that come beside it
+unfoldable pub fittingBeside : Room → Placement → Step → Bool
+fittingBeside room places step =
+    let tally : ℕ → Tally = λ d. tallyAt room d (allRunning (firstMoment room places step)) in
+    all (λ move. withinMemory (nodeOf room (move .to)) (tally (move .to)) &&
+    (some (λ other. eqb (other .to) (move .to) && isIdle (vmOf room (other .vm))) step || withinCpu (nodeOf room (move .to)) (tally (move .to)))) step
 
 -- ---- what tells them apart
 
@@ -122,9 +160,23 @@ pub record ToldApart : Type 0 where
   -- a shutdown has memory 0, and still pays for the steps before it; a launch has its memory
   pub shutdown-cost : costOf turnover (shutdown ∷ launch ∷ []) ≡ 2
   pub shutdown-later : costOf turnover (launch ∷ shutdown ∷ []) ≡ 4
+  -- an idle VM enters a node that is over its CPU, an active one does not, nor beside an idle one
+  pub idle-wrong : fitsBoth (busy 9 2) (firstMoment (busy 9 2) (currentOf (busy 9 2)) idleComes) 0 1 ≡ false
+  pub idle-right : stepCheck (busy 9 2) (currentOf (busy 9 2)) idleComes ≡ Clear
+  pub active-wrong : fitsMemory (busy 9 2) (firstMoment (busy 9 2) (currentOf (busy 9 2)) activeComes) 1 1 ≡ true
+  pub active-right : stepCheck (busy 9 2) (currentOf (busy 9 2)) activeComes ≡ Faulty Misfit
+  pub beside-wrong : fittingBeside (busy 9 2) (currentOf (busy 9 2)) bothCome ≡ true
+  pub beside-right : stepCheck (busy 9 2) (currentOf (busy 9 2)) bothCome ≡ Faulty Misfit
+  -- no idle VM enters a node that is full, and its memory counts for those beside it
+  pub full : stepCheck (busy 3 2) (currentOf (busy 3 2)) idleComes ≡ Faulty Misfit
+  pub full-beside : stepCheck (busy 3 2) (after (currentOf (busy 3 2)) leaves) bothCome ≡ Faulty Misfit
+  pub full-alone : stepCheck (busy 3 2) (after (currentOf (busy 3 2)) leaves) activeComes ≡ Clear
+  pub side-by-side : stepCheck (busy 4 2) (after (currentOf (busy 4 2)) leaves) bothCome ≡ Clear
+  -- the target fits both sums: with VM 2 to stay, node 1 is over its CPU
+  pub target : targetCheck (busy 9 1) ≡ Bad Overfull
 
 pub told-apart : ToldApart
-unfolding all has vmsOf nodeOf vmOf onNode currentOf targetOf within bears countsOn tallyAt phaseOf cellsFrom firstMoment begun allRunning fits spreads some mates meetsMate from keepsFrom allowed aims named permitted fitting unmet soundStep stepCheck after isPlace sourced memoryOf stepCost costFrom costOf sumOf overAt allOver swap bothMoves oneRuns overfull oneMove turnover bothAtOnce shutdown launch killed fenced countsFreed tallyFreed fitsFreed fittingEnded unmetEnded fitsEverywhere
+unfolding all has vmsOf nodeOf vmOf onNode currentOf targetOf within bears countsOn tallyAt phaseOf cellsFrom firstMoment begun allRunning fits spreads some mates meetsMate from keepsFrom allowed aims named permitted fitting unmet soundStep stepCheck after isPlace sourced memoryOf stepCost costFrom costOf sumOf overAt allOver swap bothMoves oneRuns overfull oneMove turnover bothAtOnce shutdown launch killed fenced countsFreed tallyFreed fitsFreed fittingEnded unmetEnded fitsEverywhere bearsAt fitsAll targetCheck busy idleComes activeComes bothCome leaves fitsBoth fitsMemory fittingBeside
 told-apart = record {
   source-wrong = refl;
   source-right = refl;
@@ -144,4 +196,15 @@ told-apart = record {
   goes-on = refl;
   shutdown-cost = refl;
   shutdown-later = refl;
+  idle-wrong = refl;
+  idle-right = refl;
+  active-wrong = refl;
+  active-right = refl;
+  beside-wrong = refl;
+  beside-right = refl;
+  full = refl;
+  full-beside = refl;
+  full-alone = refl;
+  side-by-side = refl;
+  target = refl;
 }

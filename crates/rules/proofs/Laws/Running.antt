@@ -17,7 +17,7 @@ use Rattle.records.specs.Plan.{Step, moveOf}
 use Rattle.records.specs.declared.faults.ClusterCheck.the-variants.{Whole}
 use Rattle.records.proofs.Laws.Bools.{and-left, and-right}
 use Rattle.records.proofs.Laws.Cluster.{nodes-most, nodes-count, vms-count, vm-current-node, vm-target-node}
-use Rattle.rules.specs.Moments.{Placement, placeOf, currentOf, targetOf, after, bears, Phase, idle, waiting, running, ended, cell, Moment, numberOf, countsOn, phaseOf, cellsFrom, firstMoment, atRest, placesLeft}
+use Rattle.rules.specs.Moments.{Placement, placeOf, currentOf, targetOf, after, bearsAt, Phase, staying, waiting, running, ended, cell, Moment, numberOf, countsOn, phaseOf, cellsFrom, firstMoment, atRest, placesLeft}
 use Rattle.rules.specs.Orders.{Act, Event, begins, ends, later, Order, done, next, Run, stop, step, fits, meetsMate, some, standsOn, EachChange, EachChangeOfRun}
 use Rattle.rules.specs.Rules.{aims, allowed, named}
 use Rattle.rules.specs.Promises.{namedAll, Obeys, KeepsRunning, NothingDown}
@@ -31,7 +31,7 @@ use Rattle.rules.proofs.Laws.Spreads.{alone, same-stands}
 
 -- a move to no node obeys the rules at any moment
 pub off-obeys : (room : Room) (cs : Moment) (v : ℕ) → Obeys room cs v nowhere
-unfolding fits bears meetsMate allowed onNode
+unfolding fits bearsAt meetsMate allowed onNode
 off-obeys room cs v = record { may = record { fit = refl; apart = refl }; permitted = refl }
 
 -- a VM that is wanted on a node can be sent to nodes only
@@ -47,7 +47,7 @@ sent-below room v d t e = go (ltb d (length (room .nodes))) refl e
 
 -- its move, if it has one, goes to one of n nodes
 abbrev Bound : ℕ → Phase → Type 0
-Bound n idle = Unit
+Bound n staying = Unit
 Bound n (waiting d) = d < n
 Bound n (running d) = d < n
 Bound n (ended d) = d < n

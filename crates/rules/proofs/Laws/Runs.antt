@@ -2,21 +2,22 @@
 use Prim.Native.Nat.{ℕ, zero, suc, _+_, _≤_, _<_}
 use mathlib.Core.Bool.{Bool, true, false, _||_, false≢true, or-true, or-false}
 use mathlib.Core.List.{List, [], _∷_, _++_, map}
-use mathlib.Core.Logic.{inl, inr, _↔_}
+use mathlib.Core.Logic.{_⊎_, inl, inr, ⊎-elim, _↔_}
 use mathlib.Core.Path.{_≡_, refl, sym, ap, _∙_}
 use native.Mathlib.Omega.{arith}
 use lib.ListN.{length, getD}
-use lib.Dec.{leb, eqb}
-use borrow.Author.Tests.{leb-true, eqb-true, eqb-false, le-leb, ne-eqb}
+use lib.Dec.{eqb}
+use borrow.Author.Tests.{eqb-true, eqb-false, ne-eqb}
 use Rattle.records.specs.Base.{pick, all}
 use Rattle.records.specs.Room.{Room, vmOf, nodeOf, onNode}
 use Rattle.records.specs.Plan.{Step}
 use Rattle.records.proofs.Laws.Bools.{and-left, and-right, and-both}
 use Rattle.records.proofs.Laws.Rows.{node-on}
-use Rattle.rules.specs.Moments.{Placement, placeOf, after, within, bears, withVm, Phase, idle, waiting, running, ended, cell, Moment, numberOf, countsOn, tallyAt, phaseOf, cellsFrom, firstMoment, atRest, rests, settled, leftAt, placesLeft}
+use Rattle.rules.specs.Moments.{Placement, placeOf, after, bears, withVm, Phase, staying, waiting, running, ended, cell, Moment, numberOf, countsOn, tallyAt, phaseOf, cellsFrom, firstMoment, atRest, rests, settled, leftAt, placesLeft}
 use Rattle.rules.specs.Orders.{begin, finish, Event, begins, ends, later, Order, done, next, Run, stop, step, fits, meetsMate, EachBegin, SomeBegin, EachMoment, EachChange, EachBeginOfRun, EachMomentOfRun, EachChangeOfRun, MayBegin}
 use Rattle.rules.specs.Rules.{from, allowed, named, permitted, fitting, unmet, soundStep}
 use Rattle.rules.specs.Promises.{afterAll, namedAll, soundAll, Obeys, SoundInOrders, SomeOrder, StaysWithin}
+use Rattle.rules.proofs.Laws.Bears.{at-node, bears-memory, bears-cpu}
 use Rattle.rules.proofs.Laws.Sound.{sound-named, sound-permitted, sound-fitting, sound-unmet, sound-tests}
 use Rattle.rules.proofs.Laws.Orders.{never, load, memoryIn, cpuIn, memory-load, cpu-load, Under, under-self, both, under-load, Onward, none, same, runs, over, stops, onward-self, onward-order, begins-allowed, begins-fit, begins-apart, some-order, some-forbidden, some-misfit, some-mate, after-length, order-leaves}
 
@@ -190,18 +191,22 @@ end-under d (ends {place = p} {to = to} {cs = cs}) = both (λ e. ap (λ (b : Boo
 end-under d (later {c = cell v p x} e) = both (λ e. e) (end-under d e)
 
 module _ (f : ℕ → ℕ) (d most : ℕ) where
-  -- the VM is within the bound when it begins
+  -- a VM that begins on d is within the bound, or counts nothing
   abbrev pub Room-for : Moment → ℕ → ℕ → Type 0
-  Room-for cs v to = to ≡ d → load f d cs + f v ≤ most
+  Room-for cs v to = to ≡ d → (f v ≡ 0) ⊎ (load f d cs + f v ≤ most)
 
-  pub event-most : {cs ds : Moment} {v to : ℕ} → Event cs (begin v to) ds → Room-for cs v to → load f d cs ≤ most → load f d ds ≤ most
-  event-most {cs} {ds} {v} {to} e h m = go (eqb to d) refl
+  -- from one moment to the next the load does not pass the bound, and does not grow while it is past it
+  abbrev pub Keeps-to : Moment → Moment → Type 0
+  Keeps-to cs ds = (x : ℕ) → most ≤ x → load f d cs ≤ x → load f d ds ≤ x
+
+  pub event-most : {cs ds : Moment} {v to : ℕ} → Event cs (begin v to) ds → Room-for cs v to → Keeps-to cs ds
+  event-most {cs} {ds} {v} {to} e h x l m = go (eqb to d) refl
     where
-      go : (b : Bool) → eqb to d ≡ b → load f d ds ≤ most
+      go : (b : Bool) → eqb to d ≡ b → load f d ds ≤ x
       go true t =
           let q = eqb-true to d t in
           let k = begin-most f (rw q at e) in
-          omega (arith, h q)
+          ⊎-elim (λ z. omega arith) (λ r. omega arith) (h q)
       go false t = let k = under-load f (begin-elsewhere d (eqb-false to d t) e) in omega arith
 
 -- at a step's first moment every VM counts on its place
@@ -223,7 +228,7 @@ first-load f d places moves v (suc n) =
 -- at a settled moment on the node that it is left on
 counts-left : (d v p : ℕ) (x : Phase) → rests (cell v p x) ≡ true → countsOn d (cell v p x) ≡ eqb (leftAt (cell v p x)) d
 unfolding countsOn rests leftAt
-counts-left d v p idle e = refl
+counts-left d v p staying e = refl
 counts-left d v p (waiting to) e = absurd (false≢true e)
 counts-left d v p (running to) e = absurd (false≢true e)
 counts-left d v p (ended to) e = refl
@@ -269,17 +274,16 @@ left-load f d room places moves {end} o s =
 
 -- ---- from one moment to the next
 
-order-changes : (f : ℕ → ℕ) (d most : ℕ) {cs ds : Moment} (o : Order cs ds) → EachBegin (Room-for f d most) o →
-    EachChange (λ xs ys. load f d xs ≤ most → load f d ys ≤ most) o
+order-changes : (f : ℕ → ℕ) (d most : ℕ) {cs ds : Moment} (o : Order cs ds) → EachBegin (Room-for f d most) o → EachChange (Keeps-to f d most) o
 order-changes f d most done b = tt
-order-changes f d most (next {a = begin v to} e o) b = (λ m. event-most f d most e (b .0) m, order-changes f d most o (b .1))
-order-changes f d most (next {a = finish v} e o) b = (λ m. let k = under-load f (end-under d e) in omega arith, order-changes f d most o b)
+order-changes f d most (next {a = begin v to} e o) b = (event-most f d most e (b .0), order-changes f d most o (b .1))
+order-changes f d most (next {a = finish v} e o) b = (λ x l m. let k = under-load f (end-under d e) in omega arith, order-changes f d most o b)
 
 pub run-changes : (f : ℕ → ℕ) (d most : ℕ) {room : Room} {places last : Placement} {steps : List Step} (run : Run room places steps last) →
-    EachBeginOfRun (Room-for f d most) run → EachChangeOfRun (λ xs ys. load f d xs ≤ most → load f d ys ≤ most) run
+    EachBeginOfRun (Room-for f d most) run → EachChangeOfRun (Keeps-to f d most) run
 run-changes f d most stop b = tt
 run-changes f d most {room} (step {places = places} {moves = moves} {end = end} o s r) b =
-    (λ m. rw (first-rest f d room places moves) m, order-changes f d most o (b .0), λ m. rw (left-load f d room places moves o s) m, run-changes f d most r (b .1))
+    (λ x l m. rw (first-rest f d room places moves) m, order-changes f d most o (b .0), λ x l m. rw (left-load f d room places moves o s) m, run-changes f d most r (b .1))
 
 each-change : (P Q : Moment → Moment → Type 0) → ((cs ds : Moment) → P cs ds → Q cs ds) → {cs ds : Moment} (o : Order cs ds) → EachChange P o → EachChange Q o
 each-change P Q h done p = tt
@@ -305,57 +309,61 @@ kept-moments-run Q (step o s r) c q = let k = kept-moments Q o (c .1) (c .0 q) i
 
 -- what a VM that fits on a node says of each number
 module _ (room : Room) (cs : Moment) (v d : ℕ) (n : onNode d ≡ true) (e : fits room cs v d ≡ true) where
-  fits-with : within (nodeOf room d) (withVm (tallyAt room d cs) (vmOf room v)) ≡ true
-  unfolding fits bears
-  fits-with = ap (λ (b : Bool). pick b (within (nodeOf room d) (withVm (tallyAt room d cs) (vmOf room v))) true) (sym n) ∙ e
+  fits-node : bears (nodeOf room d) (withVm (tallyAt room d cs) (vmOf room v)) (vmOf room v) ≡ true
+  unfolding fits
+  fits-node = sym (at-node room d (withVm (tallyAt room d cs) (vmOf room v)) (vmOf room v) n) ∙ e
 
   fits-memory : tallyAt room d cs .memory + memoryIn room v ≤ nodeOf room d .memory
-  unfolding within
-  fits-memory =
-      leb-true (tallyAt room d cs .memory + memoryIn room v) (nodeOf room d .memory)
-      (and-left (leb (tallyAt room d cs .memory + memoryIn room v) (nodeOf room d .memory)) _ fits-with)
+  fits-memory = bears-memory (nodeOf room d) (withVm (tallyAt room d cs) (vmOf room v)) (vmOf room v) fits-node
 
-  fits-cpu : tallyAt room d cs .cpu + cpuIn room v ≤ nodeOf room d .cpu
-  unfolding within
-  fits-cpu =
-      leb-true (tallyAt room d cs .cpu + cpuIn room v) (nodeOf room d .cpu)
-      (and-right (leb (tallyAt room d cs .memory + memoryIn room v) (nodeOf room d .memory)) _ fits-with)
-
-  pub fits-within : within (nodeOf room d) (tallyAt room d cs) ≡ true
-  unfolding within
-  fits-within =
-      let m = fits-memory in let c = fits-cpu in
-      and-both (le-leb (tallyAt room d cs .memory) (nodeOf room d .memory) (omega arith)) (le-leb (tallyAt room d cs .cpu) (nodeOf room d .cpu) (omega arith))
+  fits-cpu : (cpuIn room v ≡ 0) ⊎ (tallyAt room d cs .cpu + cpuIn room v ≤ nodeOf room d .cpu)
+  fits-cpu = bears-cpu (nodeOf room d) (withVm (tallyAt room d cs) (vmOf room v)) (vmOf room v) fits-node
 
 module _ (room : Room) (cs : Moment) (v to d : ℕ) (n : onNode d ≡ true) (e : fits room cs v to ≡ true) where
   there : to ≡ d → fits room cs v d ≡ true
   there q = ap (fits room cs v) (sym q) ∙ e
 
   room-memory : Room-for (memoryIn room) d (nodeOf room d .memory) cs v to
-  room-memory q = let m = fits-memory room cs v d n (there q) in omega (arith, memory-load room d cs)
+  room-memory q = let m = fits-memory room cs v d n (there q) in inr (omega (arith, memory-load room d cs))
 
   room-cpu : Room-for (cpuIn room) d (nodeOf room d .cpu) cs v to
-  room-cpu q = let m = fits-cpu room cs v d n (there q) in omega (arith, cpu-load room d cs)
+  room-cpu q = ⊎-elim inl (λ m. inr (omega (arith, cpu-load room d cs))) (fits-cpu room cs v d n (there q))
 
 module _ (room : Room) (places : Placement) (steps : List Step) (few : length (room .nodes) ≤ 64) (e : soundAll room places steps ≡ true)
     (l : length places ≡ length (room .vms)) where
-  memory-stays : (last : Placement) (run : Run room places steps last) (d : ℕ) → d < length (room .nodes) →
-      EachChangeOfRun (λ cs ds. tallyAt room d cs .memory ≤ nodeOf room d .memory → tallyAt room d ds .memory ≤ nodeOf room d .memory) run
-  memory-stays last run d h =
-      each-change-run (λ cs ds. load (memoryIn room) d cs ≤ nodeOf room d .memory → load (memoryIn room) d ds ≤ nodeOf room d .memory)
-      (λ cs ds. tallyAt room d cs .memory ≤ nodeOf room d .memory → tallyAt room d ds .memory ≤ nodeOf room d .memory)
-      (λ cs ds h m. rw (memory-load room d ds) (h (rw (memory-load room d cs) at m))) run
-      (run-changes (memoryIn room) d (nodeOf room d .memory) run
-      (each-run (Obeys room) (Room-for (memoryIn room) d (nodeOf room d .memory)) (λ cs v k p. room-memory room cs v k d (node-on (length (room .nodes)) d few h) (p .may .fit)) run (run-obeys e l run)))
+  module _ (last : Placement) (run : Run room places steps last) (d : ℕ) (h : d < length (room .nodes)) where
+    on : onNode d ≡ true
+    on = node-on (length (room .nodes)) d few h
 
-  cpu-stays : (last : Placement) (run : Run room places steps last) (d : ℕ) → d < length (room .nodes) →
-      EachChangeOfRun (λ cs ds. tallyAt room d cs .cpu ≤ nodeOf room d .cpu → tallyAt room d ds .cpu ≤ nodeOf room d .cpu) run
-  cpu-stays last run d h =
-      each-change-run (λ cs ds. load (cpuIn room) d cs ≤ nodeOf room d .cpu → load (cpuIn room) d ds ≤ nodeOf room d .cpu)
-      (λ cs ds. tallyAt room d cs .cpu ≤ nodeOf room d .cpu → tallyAt room d ds .cpu ≤ nodeOf room d .cpu)
-      (λ cs ds h m. rw (cpu-load room d ds) (h (rw (cpu-load room d cs) at m))) run
-      (run-changes (cpuIn room) d (nodeOf room d .cpu) run
-      (each-run (Obeys room) (Room-for (cpuIn room) d (nodeOf room d .cpu)) (λ cs v k p. room-cpu room cs v k d (node-on (length (room .nodes)) d few h) (p .may .fit)) run (run-obeys e l run)))
+    memory-kept : EachChangeOfRun (Keeps-to (memoryIn room) d (nodeOf room d .memory)) run
+    memory-kept =
+        run-changes (memoryIn room) d (nodeOf room d .memory) run
+        (each-run (Obeys room) (Room-for (memoryIn room) d (nodeOf room d .memory)) (λ cs v k p. room-memory room cs v k d on (p .may .fit)) run (run-obeys e l run))
+
+    cpu-kept : EachChangeOfRun (Keeps-to (cpuIn room) d (nodeOf room d .cpu)) run
+    cpu-kept =
+        run-changes (cpuIn room) d (nodeOf room d .cpu) run
+        (each-run (Obeys room) (Room-for (cpuIn room) d (nodeOf room d .cpu)) (λ cs v k p. room-cpu room cs v k d on (p .may .fit)) run (run-obeys e l run))
+
+    memory-stays : EachChangeOfRun (λ cs ds. tallyAt room d cs .memory ≤ nodeOf room d .memory → tallyAt room d ds .memory ≤ nodeOf room d .memory) run
+    memory-stays =
+        each-change-run (Keeps-to (memoryIn room) d (nodeOf room d .memory))
+        (λ cs ds. tallyAt room d cs .memory ≤ nodeOf room d .memory → tallyAt room d ds .memory ≤ nodeOf room d .memory)
+        (λ cs ds k m. rw (memory-load room d ds) (k (nodeOf room d .memory) (omega arith) (rw (memory-load room d cs) at m))) run memory-kept
+
+    cpu-stays : EachChangeOfRun (λ cs ds. tallyAt room d cs .cpu ≤ nodeOf room d .cpu → tallyAt room d ds .cpu ≤ nodeOf room d .cpu) run
+    cpu-stays =
+        each-change-run (Keeps-to (cpuIn room) d (nodeOf room d .cpu))
+        (λ cs ds. tallyAt room d cs .cpu ≤ nodeOf room d .cpu → tallyAt room d ds .cpu ≤ nodeOf room d .cpu)
+        (λ cs ds k m. rw (cpu-load room d ds) (k (nodeOf room d .cpu) (omega arith) (rw (cpu-load room d cs) at m))) run cpu-kept
+
+    cpu-unraised : EachChangeOfRun (λ cs ds. nodeOf room d .cpu < tallyAt room d cs .cpu → tallyAt room d ds .cpu ≤ tallyAt room d cs .cpu) run
+    cpu-unraised =
+        each-change-run (Keeps-to (cpuIn room) d (nodeOf room d .cpu))
+        (λ cs ds. nodeOf room d .cpu < tallyAt room d cs .cpu → tallyAt room d ds .cpu ≤ tallyAt room d cs .cpu)
+        (λ cs ds k o.
+        let u = cpu-load room d cs in
+        rw (cpu-load room d ds) (k (tallyAt room d cs .cpu) (omega arith) (omega arith))) run cpu-kept
 
   pub stays-within : StaysWithin room places steps
   stays-within = record {
@@ -363,7 +371,12 @@ module _ (room : Room) (places : Placement) (steps : List Step) (few : length (r
     cpu = λ last run d h m. kept-moments-run (λ cs. tallyAt room d cs .cpu ≤ nodeOf room d .cpu) run (cpu-stays last run d h) m;
     memory-stays = memory-stays;
     cpu-stays = cpu-stays;
-    arrivals = λ last run.
-        each-run (Obeys room) (λ cs v d. d < length (room .nodes) → (fits room cs v d ≡ true) × (within (nodeOf room d) (tallyAt room d cs) ≡ true))
-        (λ cs v d p h. (p .may .fit, fits-within room cs v d (node-on (length (room .nodes)) d few h) (p .may .fit))) run (run-obeys e l run);
+    arrivals = λ last run. each-run (Obeys room) (λ cs v d. fits room cs v d ≡ true) (λ cs v d p. p .may .fit) run (run-obeys e l run);
+    memory-over = λ last run.
+        each-run (Obeys room) (λ cs v d. d < length (room .nodes) → nodeOf room d .memory < tallyAt room d cs .memory → ⊥)
+        (λ cs v d p h o. let m = fits-memory room cs v d (node-on (length (room .nodes)) d few h) (p .may .fit) in omega arith) run (run-obeys e l run);
+    cpu-over = λ last run.
+        each-run (Obeys room) (λ cs v d. d < length (room .nodes) → nodeOf room d .cpu < tallyAt room d cs .cpu → vmOf room v .cpu ≡ 0)
+        (λ cs v d p h o. ⊎-elim (λ z. z) (λ m. omega arith) (fits-cpu room cs v d (node-on (length (room .nodes)) d few h) (p .may .fit))) run (run-obeys e l run);
+    cpu-unraised = cpu-unraised;
   }

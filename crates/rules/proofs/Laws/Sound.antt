@@ -9,10 +9,10 @@ use lib.ListN.{length}
 use lib.Dec.{eqb}
 use borrow.Author.Tests.{eqb-true, ne-eqb}
 use Rattle.records.specs.Base.{pick, all}
-use Rattle.records.specs.Room.{Room}
+use Rattle.records.specs.Room.{Room, vmOf}
 use Rattle.records.specs.Plan.{Move, Step}
 use Rattle.records.proofs.Laws.Bools.{and-left, and-right, and-both}
-use Rattle.rules.specs.Moments.{Placement, placeOf, idle, waiting, cell, countsOn, bears, tallyAt, phaseOf, cellsFrom, firstMoment, begun, allRunning}
+use Rattle.rules.specs.Moments.{Placement, placeOf, staying, waiting, cell, countsOn, bearsAt, tallyAt, phaseOf, cellsFrom, firstMoment, begun, allRunning}
 use Rattle.rules.specs.Orders.{meetsMate}
 use Rattle.rules.specs.Rules.{allowed, named, sourced, permitted, fitting, unmet, stepCheck, soundStep}
 use Rattle.rules.specs.declared.faults.StepFault.the-variants.{Misnamed, Elsewhere, Forbidden, Misfit, Mate}
@@ -196,7 +196,7 @@ module _ (room : Room) (places : Placement) where
       ap (λ (x : Move). named room places low (x ∷ part)) p ∙ t
 
   -- a VM below the least has no move
-  pub phase-below : (least : ℕ) (step : Step) (v : ℕ) → named room places least step ≡ true → v < least → phaseOf step v ≡ idle
+  pub phase-below : (least : ℕ) (step : Step) (v : ℕ) → named room places least step ≡ true → v < least → phaseOf step v ≡ staying
   unfolding phaseOf
   phase-below least [] v e h = refl
   phase-below least (move ∷ moves) v e h =
@@ -206,14 +206,14 @@ module _ (room : Room) (places : Placement) where
 
   -- in the part a VM has the move that it has in the whole, or none
   pub phase-part : (least : ℕ) {part whole : Step} → Sublistᴰ part whole → (v : ℕ) → named room places least whole ≡ true →
-      (phaseOf part v ≡ idle) ⊎ (phaseOf part v ≡ phaseOf whole v)
+      (phaseOf part v ≡ staying) ⊎ (phaseOf part v ≡ phaseOf whole v)
   unfolding phaseOf
   phase-part least Sublistᴰ·slnil v e = inl refl
   phase-part least (Sublistᴰ·cons {a = move} {l₁ = part} {l₂ = moves} s) v e =
       go (eqb (move .vm) v) refl (phase-part (suc (move .vm)) s v (named-rest room places least move moves e))
     where
-      go : (b : Bool) → eqb (move .vm) v ≡ b → (phaseOf part v ≡ idle) ⊎ (phaseOf part v ≡ phaseOf moves v) →
-          (phaseOf part v ≡ idle) ⊎ (phaseOf part v ≡ pick b (waiting (move .to)) (phaseOf moves v))
+      go : (b : Bool) → eqb (move .vm) v ≡ b → (phaseOf part v ≡ staying) ⊎ (phaseOf part v ≡ phaseOf moves v) →
+          (phaseOf part v ≡ staying) ⊎ (phaseOf part v ≡ pick b (waiting (move .to)) (phaseOf moves v))
       go true t w =
           let q = eqb-true (move .vm) v t in
           inl (phase-below (suc (move .vm)) part v (named-part (suc (move .vm)) (suc (move .vm)) s (omega arith) (named-rest room places least move moves e)) (omega arith))
@@ -221,8 +221,8 @@ module _ (room : Room) (places : Placement) where
   phase-part least (Sublistᴰ·cons-cons {a = a} {b = b} {l₁ = part} {l₂ = moves} p s) v e =
       rw p (go (eqb (b .vm) v) (phase-part (suc (b .vm)) s v (named-rest room places least b moves e)))
     where
-      go : (t : Bool) → (phaseOf part v ≡ idle) ⊎ (phaseOf part v ≡ phaseOf moves v) →
-          (pick t (waiting (b .to)) (phaseOf part v) ≡ idle) ⊎ (pick t (waiting (b .to)) (phaseOf part v) ≡ pick t (waiting (b .to)) (phaseOf moves v))
+      go : (t : Bool) → (phaseOf part v ≡ staying) ⊎ (phaseOf part v ≡ phaseOf moves v) →
+          (pick t (waiting (b .to)) (phaseOf part v) ≡ staying) ⊎ (pick t (waiting (b .to)) (phaseOf part v) ≡ pick t (waiting (b .to)) (phaseOf moves v))
       go true w = inr refl
       go false w = w
 
@@ -244,7 +244,7 @@ module _ (room : Room) (places : Placement) {part whole : Step} (s : Sublistᴰ 
   under-whole d v zero = empty
   under-whole d v (suc k) = both (counts (phase-part room places 0 s v n)) (under-whole d (suc v) k)
     where
-      counts : (phaseOf part v ≡ idle) ⊎ (phaseOf part v ≡ phaseOf whole v) →
+      counts : (phaseOf part v ≡ staying) ⊎ (phaseOf part v ≡ phaseOf whole v) →
           countsOn d (cell v (placeOf places v) (begun (phaseOf part v))) ≡ true → countsOn d (cell v (placeOf places v) (begun (phaseOf whole v))) ≡ true
       counts (inl i) e = counts-place d v (placeOf places v) whole (rw i at e)
       counts (inr i) e = rw i at e
@@ -256,10 +256,10 @@ module _ (room : Room) (places : Placement) {part whole : Step} (s : Sublistᴰ 
   pub fitting-part : fitting room places whole ≡ true → fitting room places part ≡ true
   unfolding fitting
   fitting-part e =
-      all-more (λ move. bears room (move .to) (tallyAt room (move .to) (allRunning (firstMoment room places whole))))
-      (λ move. bears room (move .to) (tallyAt room (move .to) (allRunning (firstMoment room places part))))
-      (λ move h. bears-under room (under-first (move .to)) h) part
-      (all-part (λ move. bears room (move .to) (tallyAt room (move .to) (allRunning (firstMoment room places whole)))) s e)
+      all-more (λ move. bearsAt room (move .to) (tallyAt room (move .to) (allRunning (firstMoment room places whole))) (vmOf room (move .vm)))
+      (λ move. bearsAt room (move .to) (tallyAt room (move .to) (allRunning (firstMoment room places part))) (vmOf room (move .vm)))
+      (λ move h. bears-under room (vmOf room (move .vm)) (under-first (move .to)) h) part
+      (all-part (λ move. bearsAt room (move .to) (tallyAt room (move .to) (allRunning (firstMoment room places whole))) (vmOf room (move .vm))) s e)
 
   pub unmet-part : unmet room places whole ≡ true → unmet room places part ≡ true
   unfolding unmet

@@ -10,14 +10,14 @@ use lib.Seq.{getD-take}
 use lib.Dec.{eqb}
 use borrow.Author.Tests.{eqb-true, eqb-false}
 use Rattle.records.specs.Base.{pick, all, sumOf}
-use Rattle.records.specs.Room.{Room, vmCount}
+use Rattle.records.specs.Room.{Room, vmOf, vmCount}
 use Rattle.records.specs.Plan.{Move, Step, withSources, noMove, moveOf, moveCount, stepAt}
 use Rattle.records.specs.Inner.{tellsSource, tellsSources}
 use Rattle.records.specs.declared.plan.Source.{Source}
 use Rattle.records.specs.declared.plan.Source.the-variants.{Unnamed, Named}
 use Rattle.records.proofs.Laws.Bools.{and-left, and-right, and-both, all-at}
 use Rattle.records.proofs.Laws.Steps.{step-length}
-use Rattle.rules.specs.Moments.{Placement, placeOf, after, bears, waiting, tallyAt, phaseOf, cellsFrom, firstMoment, allRunning}
+use Rattle.rules.specs.Moments.{Placement, placeOf, after, bearsAt, waiting, tallyAt, phaseOf, cellsFrom, firstMoment, allRunning}
 use Rattle.rules.specs.Orders.{Order, Run, stop, step, meetsMate}
 use Rattle.rules.specs.Rules.{allowed, named, isPlace, sourced, permitted, fitting, unmet, soundStep}
 use Rattle.rules.specs.Cost.{memoryOf, stepCost, costFrom, costOf}
@@ -216,7 +216,7 @@ module _ (names : Move → Source) where
           moment-unread places moves,
           named-unread places 0 moves,
           all-unread (allowed room) moves,
-          all-unread (λ v d. bears room d (tallyAt room d (allRunning (firstMoment room places moves)))) moves,
+          all-unread (λ v d. bearsAt room d (tallyAt room d (allRunning (firstMoment room places moves))) (vmOf room v)) moves,
           all-unread (λ v d. not (meetsMate room (allRunning (firstMoment room places moves)) v d)) moves,
         )
 

@@ -23,14 +23,15 @@ use Rattle.records.proofs.Laws.Bools.{and-left, and-right}
 use Rattle.records.proofs.Laws.Lists.{list-below}
 use Rattle.records.proofs.Laws.Cluster.{nodes-most, vms-count, nodes-count}
 use Rattle.records.proofs.Laws.Constraints.{groups-last, groups-read, groups-length, groups-next, group-within}
-use Rattle.rules.specs.Moments.{Placement, placeOf, targetOf, within, emptyTally, tallyAt, cellsFrom, firstMoment, begun, allRunning, phaseOf}
+use Rattle.rules.specs.Moments.{placeOf, targetOf, within, emptyTally, tallyAt, firstMoment}
 use Rattle.rules.specs.Orders.{some}
 use Rattle.rules.specs.Rules.{from, fitsAll, named}
 use Rattle.rules.specs.Verdict.{home}
 use Rattle.rules.specs.Inner.{held, destsFrom, busyFrom, Ready, Loads, Formed, Grouping, stopped, goUnmet, fitsUpTo, homeFrom, clearOf, allDown, groupHolds, keepsIn}
 use Rattle.rules.specs.declared.tally.Tally.{Tally}
 use Rattle.rules.proofs.Laws.Places.{target-at}
-use Rattle.rules.proofs.Laws.Fit.{named-ready, running-is, first-is, held-at}
+use Rattle.rules.proofs.Laws.Fit.{named-ready, running-is, held-at}
+use Rattle.rules.proofs.Laws.Adding.{empty-running}
 
 -- ---- counting up: a test of all numbers from d on
 
@@ -68,12 +69,6 @@ fit-end s sums d n result inv h = sym (from-none (λ k. within (nodeOf (roomOf s
 pub fit-start : (s : List ℕ) (sums : List Tally) (n : ℕ) → n ≡ nodeCount s → fitsUpTo (roomOf s) sums 0 (n - 0) ≡ fitsUpTo (roomOf s) sums 0 (nodeCount s)
 fit-start s sums n q = rw (sub-zero n, q)
 
--- with no move all cells stay idle
-idle-running : (places : Placement) (v n : ℕ) → allRunning (cellsFrom places [] v n) ≡ cellsFrom places [] v n
-unfolding allRunning cellsFrom phaseOf begun
-idle-running places v zero = refl
-idle-running places v (suc n) = rw (idle-running places (suc v) n)
-
 pub no-moves : (s places : List ℕ) → named (roomOf s) (held s places) 0 [] ≡ true
 unfolding named
 no-moves s places = refl
@@ -101,7 +96,7 @@ rest-fits s places dests sums r e l f w =
     moment : busyFrom places dests 0 (vmCount s) ≡ firstMoment (roomOf s) (held s places) []
     moment =
         ap (λ (x : List ℕ). busyFrom places x 0 (vmCount s)) (e ∙ sym dests-none) ∙ running-is s places [] w (no-moves s places) ∙
-        ap allRunning (first-is s (held s places) []) ∙ idle-running (held s places) 0 (vmCount s) ∙ sym (first-is s (held s places) [])
+        empty-running (roomOf s) (held s places)
 
 -- ---- 19: the pass over the VMs
 

@@ -1,7 +1,7 @@
 //! Measures the library's `check` beside the model and the baseline on the inputs of `inputs`, each
 //! as a plan of version 1 and of version 2, after comparing library, baseline and model on both;
 //! with the planner, `build` beside the model on those of `rooms`. Buffers are not cleared between
-//! calls, so caches are warm.
+//! calls, so caches are warm. With `--agree` it compares and measures nothing.
 
 use kobdrieft_harness::inputs::{all, Input, Outcome};
 use kobdrieft_harness::timing::measure;
@@ -9,21 +9,28 @@ use kobdrieft_harness::{baseline, check, streams};
 use kobdrieft_model as model;
 use kobdrieft_model::edges::edges;
 use kobdrieft_model::gen::{cases, Rng};
+use std::env;
 use std::hint::black_box;
 use std::process::exit;
 
 fn main() {
-    checks();
-    planning::builds();
-}
-
-fn checks() {
+    let words: Vec<String> = env::args().skip(1).collect();
+    let only_agree = words == ["--agree"];
+    if !only_agree && !words.is_empty() {
+        eprintln!("usage: bench [--agree]");
+        exit(3);
+    }
     let inputs = all();
     print_list(&inputs);
     inputs.iter().for_each(verify);
     println!("\nlibrary, baseline and model agree on all inputs");
-    println!("baseline and model agree on {} more\n", verify_baseline());
-    print_table(&inputs);
+    println!("baseline and model agree on {} more", verify_baseline());
+    if only_agree {
+        planning::agree();
+    } else {
+        print_table(&inputs);
+        planning::builds();
+    }
 }
 
 fn print_list(inputs: &[Input]) {
@@ -115,7 +122,7 @@ const RATIOS: [&str; 5] = [
 fn print_table(inputs: &[Input]) {
     let one = "plan bytes | library µs | model µs | ratio | baseline µs | ratio";
     let two = "v2 bytes | v2 library µs | v2 model µs | ratio | v2 baseline µs | ratio";
-    println!("| input | record bytes | {one} | {two} | v2 / v1 |");
+    println!("\n| input | record bytes | {one} | {two} | v2 / v1 |");
     println!("|---|{}", "--:|".repeat(14));
     let mut largest = [(0.0, ""); RATIOS.len()];
     for input in inputs {
@@ -205,6 +212,15 @@ mod planning {
                 library.nanos / plain.nanos
             );
         }
+    }
+
+    /// Stops unless library and model agree on all rooms.
+    pub fn agree() {
+        let rooms = all();
+        rooms.iter().for_each(|task| {
+            verify(task);
+        });
+        println!("library and model agree on {} rooms to plan for", rooms.len());
     }
 
     /// A packed answer, and the buffer after the call.

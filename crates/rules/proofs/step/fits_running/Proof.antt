@@ -1,4 +1,5 @@
 use borrow.Author.Needs.{needs}
+use borrow.Author.Needs.{needs}
 use Prim.Native.Nat.{_≤_, _-_}
 use mathlib.Core.Path.{_≡_}
 use lib.ListN.{drop}
@@ -6,15 +7,15 @@ use borrow.Author.Tests.{not-true, not-false}
 use Rattle.records.specs.Room.{roomOf}
 use Rattle.records.specs.Plan.{stepAt}
 use Rattle.rules.specs.Inner.{fitsIn}
-use Rattle.rules.proofs.Laws.Fit.{aimed-below, fits-off, fits-not, fits-more, fits-end}
-use mathlib.Core.Logic.{⊎-elim}
+use Rattle.rules.proofs.Laws.Fit.{fits-not, fits-more, fits-end}
 use Rattle.rules.proofs.step.fits_running.Statement.{statement}
 use Rattle.rules.proofs.step.fits_running.Tie as tie
 use Rattle.rules.proofs.step.fits_running.Reads as reads
 use Rattle.rules.proofs.step.fits_running.Lts as lts
 use Rattle.records.proofs.move_count.Reads as move-count-reads
 use Rattle.records.proofs.move_to.Reads as move-to-reads
-use Rattle.rules.proofs.tally.within_node.Reads as within-node-reads
+use Rattle.rules.proofs.places.wide.Reads as wide-reads
+use Rattle.rules.proofs.step.borne.Reads as borne-reads
 
 abbrev Inv-loop : tie.InvT-loop
 Inv-loop cluster plan at sums n i₀ i = (i ≤ n) × (fitsIn (roomOf cluster) sums (drop i (stepAt plan at)) ≡ fitsIn (roomOf cluster) sums (stepAt plan at))
@@ -31,17 +32,17 @@ loop-holds c = search needs
 move-to-requires : tie.Need-move-to-requires Inv-loop μ-loop
 move-to-requires c κs = search needs
 
-cast-d : tie.Need-cast-d Inv-loop μ-loop
-cast-d c = search needs
+wide-requires : tie.Need-wide-requires Inv-loop μ-loop
+wide-requires c κs = search needs
 
-mul-t : tie.Need-mul-t Inv-loop μ-loop
-mul-t c = search needs
+mul-here : tie.Need-mul-here Inv-loop μ-loop
+mul-here c = search needs
 
-array-copy-out-t : tie.Need-array-copy-out-t Inv-loop μ-loop
-array-copy-out-t c = search needs
+array-copy-out-here : tie.Need-array-copy-out-here Inv-loop μ-loop
+array-copy-out-here c = search needs
 
-within-node-requires : tie.Need-within-node-requires Inv-loop μ-loop
-within-node-requires c κs = search (needs, aimed-below)
+borne-requires : tie.Need-borne-requires Inv-loop μ-loop
+borne-requires c κs = search needs
 
 returns : tie.Need-returns Inv-loop μ-loop
 returns c = search (needs, fits-not, not-true)
@@ -53,7 +54,7 @@ loop-less : tie.Need-loop-less Inv-loop μ-loop
 loop-less c = search needs
 
 loop-again : tie.Need-loop-again Inv-loop μ-loop
-loop-again c = ⊎-elim (λ u. search (needs, fits-more, not-false)) (λ u. search (needs, fits-off)) (c .if1 .came)
+loop-again c = search (needs, fits-more, not-false)
 
 returns-2 : tie.Need-returns-2 Inv-loop μ-loop
 returns-2 c = search (needs, fits-end)
@@ -67,10 +68,10 @@ fits-running-spec =
     move-count-requires
     loop-holds
     move-to-requires
-    cast-d
-    mul-t
-    array-copy-out-t
-    within-node-requires
+    wide-requires
+    mul-here
+    array-copy-out-here
+    borne-requires
     returns
     add-i
     loop-less
