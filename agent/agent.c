@@ -1,11 +1,12 @@
 /* A small agent: plans for a cluster, has the plan checked, and writes it.
  *
- *     agent [--keep-blocked] CLUSTER PLAN-OUT
+ *     agent [--keep-blocked] [--reserve PERCENT] CLUSTER PLAN-OUT
  *
  * CLUSTER is a file with a cluster record. PLAN-OUT gets the plan record, if there is a plan; with
- * --keep-blocked also the steps made before the planner was blocked. What was built goes through the checker
- * before it is written. A file that could not be written whole is refused by the checker; only where the plan
- * has no steps does a file of 0 bytes stand for the same.
+ * --keep-blocked also the steps made before the planner was blocked. PERCENT, decimal digits, is kept free on
+ * each node; 0 without the option. What was built goes through the checker, at the same reserve, before it is
+ * written. A file that could not be written whole is refused by the checker; only where the plan has no steps
+ * does a file of 0 bytes stand for the same.
  *
  * A line says what came of it. Behind it stands a line for each move made: step, VM, source, destination. 255
  * is no node: the source of a launch, the destination of a shutdown.
@@ -13,7 +14,7 @@
  * Exit status:
  *   0  a plan was made and written
  *   1  blocked: the planner found no next step (this does not say that no plan exists)
- *   2  refused: the cluster record is damaged, or its target cannot be
+ *   2  refused: the reserve is too high, the cluster record is damaged, or its target cannot be
  *   3  wrong use, or a file that cannot be read or written
  *   5  planner and checker disagree: a fault of the library; nothing is written
  */
@@ -32,6 +33,7 @@ enum status { PLANNED = 0, BLOCKED = 1, REFUSED = 2, USE_OR_FILE = 3, DISAGREE =
 struct options {
     const char *cluster;
     const char *plan;
+    uint64_t reserve;
     int keep_blocked;
 };
 
@@ -49,19 +51,38 @@ struct built {
 
 static int usage(void)
 {
-    fprintf(stderr, "usage: agent [--keep-blocked] CLUSTER PLAN-OUT\n");
+    fprintf(stderr, "usage: agent [--keep-blocked] [--reserve PERCENT] CLUSTER PLAN-OUT\n");
     return USE_OR_FILE;
+}
+
+/* Whether a text is decimal digits and nothing else; then the number is set. One that 64 bits do not hold
+ * becomes the largest that they do, which is too high like itself. */
+static int parse_percent(const char *text, uint64_t *number)
+{
+    if (*text == '\0')
+        return 0;
+    *number = 0;
+    for (; *text != '\0'; text++) {
+        if (*text < '0' || *text > '9')
+            return 0;
+        uint64_t digit = (uint64_t)(*text - '0');
+        *number = *number <= (UINT64_MAX - digit) / 10 ? *number * 10 + digit : UINT64_MAX;
+    }
+    return 1;
 }
 
 /* Whether the arguments are right; then the options are set. */
 static int parse(int argc, char **argv, struct options *options)
 {
     const char *files[2] = {NULL, NULL};
+    const char *percent = NULL;
     int count = 0;
     options->keep_blocked = 0;
     for (int i = 1; i < argc; i++) {
         if (strcmp(argv[i], "--keep-blocked") == 0)
             options->keep_blocked = 1;
+        else if (strcmp(argv[i], "--reserve") == 0 && percent == NULL && i + 1 < argc)
+            percent = argv[++i];
         else if (strncmp(argv[i], "--", 2) == 0 || count == 2)
             return 0;
         else
@@ -69,7 +90,7 @@ static int parse(int argc, char **argv, struct options *options)
     }
     options->cluster = files[0];
     options->plan = files[1];
-    return count == 2;
+    return count == 2 && parse_percent(percent == NULL ? "0" : percent, &options->reserve);
 }
 
 static int file_fault(const char *verb, const char *path, int error)
@@ -108,9 +129,9 @@ static int write_plan(const char *path, const struct built *built)
 }
 
 /* Plans. A refusal leaves no record, so its length is 0. */
-static void plan_for(const struct cluster *cluster, struct built *built)
+static void plan_for(uint64_t reserve, const struct cluster *cluster, struct built *built)
 {
-    built->result = kob_build(cluster->bytes, cluster->len, built->bytes, sizeof built->bytes);
+    built->result = kob_build(reserve, cluster->bytes, cluster->len, built->bytes, sizeof built->bytes);
     built->len = kob_outcome_of(built->result) == KOB_REFUSED ? 0 : kob_plan_length(built->bytes);
 }
 
@@ -125,18 +146,19 @@ static int readable(const struct built *built)
 }
 
 /* Whether the checker says of what was built what it must. */
-static int agrees(const struct cluster *cluster, const struct built *built)
+static int agrees(uint64_t reserve, const struct cluster *cluster, const struct built *built)
 {
     if (!readable(built))
         return 0;
-    uint64_t verdict = kob_check(cluster->bytes, cluster->len, built->bytes, built->len);
+    uint64_t verdict = kob_check(reserve, cluster->bytes, cluster->len, built->bytes, built->len);
+    unsigned number = kob_refusal_number(verdict);
     switch (kob_outcome_of(built->result)) {
     case KOB_PLAN:
         return kob_outcome_of(verdict) == KOB_ACCEPTED && kob_cost(verdict) == kob_cost(built->result);
     case KOB_BLOCKED:
-        return kob_refusal_number(verdict) == KOB_FAULT_OFF_TARGET && kob_refusal_step(verdict) == 0;
-    case KOB_REFUSED: /* faults of the cluster, 1 to 9, are found by both */
-        return verdict == built->result && kob_refusal_number(verdict) <= KOB_FAULT_TARGET_BROKEN;
+        return number == KOB_FAULT_OFF_TARGET && kob_refusal_step(verdict) == 0;
+    case KOB_REFUSED: /* faults of the reserve, 23, and of the cluster, 1 to 9, are found by both */
+        return verdict == built->result && (number == KOB_FAULT_RESERVE || number <= KOB_FAULT_TARGET_BROKEN);
     default:
         return 0;
     }
@@ -200,7 +222,7 @@ static int end_disagree(const struct built *built)
 /* Writes and says what was built. */
 static int end(const struct options *options, const struct cluster *cluster, const struct built *built)
 {
-    if (!agrees(cluster, built))
+    if (!agrees(options->reserve, cluster, built))
         return end_disagree(built);
     switch (kob_outcome_of(built->result)) {
     case KOB_PLAN:
@@ -231,6 +253,6 @@ int main(int argc, char **argv)
         return usage();
     if (!read_cluster(options.cluster, &cluster))
         return USE_OR_FILE;
-    plan_for(&cluster, &built);
+    plan_for(options.reserve, &cluster, &built);
     return printed(end(&options, &cluster, &built));
 }

@@ -1,17 +1,24 @@
 /* Kobdrieft: plans VM migrations in a small cluster, and checks such plans.
  *
  * Two calls, both in libkobdrieft.a: `kobdrieft_build` makes a plan, `kobdrieft_check` gives the verdict on
- * one. Both take any bytes whatever, and return one number; the functions below take it apart, and read the
- * plan.
+ * one. Both take any reserve and any bytes whatever, and return one number; the functions below take it apart,
+ * and read the plan.
+ *
+ * Reserve. The percent that is kept free on each node, 0 to KOB_MAX_RESERVE; every other number of 64 bits is
+ * refused with 23, whatever else is wrong. A node's usable memory and usable CPU are each its capacity *
+ * (100 - reserve) / 100, rounded down; whatever is tested against a node's memory or CPU is tested against
+ * these. A node that starts with more may be left, but takes nobody, or only VMs of CPU 0 if it is just its
+ * CPU that is passed. Check a plan at the reserve that it was built at; a plan that is accepted at one reserve
+ * is accepted at the same cost at every smaller one.
  *
  * Pointers. The caller guarantees that each pointer is not NULL and readable for its length, `out` also
  * writable; that `out` overlaps nothing of `cluster`; and that nobody else writes to what is lent, or reads
- * `out`, during the call. The two arguments of `kobdrieft_check` are only read and may overlap. A length of 0
+ * `out`, during the call. The two records lent to `kobdrieft_check` are only read and may overlap. A length of 0
  * needs a pointer too: use kob_check and kob_build, which take any pointer then, NULL included.
  *
  * Threads. There is no state: any number of threads may call at once, each with an `out` of its own.
  *
- * Stack. Measured on full clusters, x86-64: `kobdrieft_check` takes 34,319 bytes (512 steps), `kobdrieft_build`
+ * Stack. Measured on full clusters, x86-64: `kobdrieft_check` takes 34,335 bytes (512 steps), `kobdrieft_build`
  * 122,287 (1 step) and 122,199 (500 steps): it does not grow with the steps. Give a thread KOB_CHECK_STACK or
  * KOB_BUILD_STACK, and what it needs itself.
  *
@@ -24,7 +31,12 @@
 #include <stdint.h>
 
 /* Grows whenever this interface changes, or what its calls answer. */
-#define KOBDRIEFT_VERSION 5
+#define KOBDRIEFT_VERSION 6
+
+/* The two names as they are in the archive. They carry the version, so a program compiled with the header of
+ * another version does not link. */
+#define kobdrieft_check kobdrieft_check_v6
+#define kobdrieft_build kobdrieft_build_v6
 
 #ifdef __cplusplus
 extern "C" {
@@ -32,12 +44,14 @@ extern "C" {
 
 /* The verdict on a plan record of version 1 or 2 for a cluster record of version 1 or 2. A plan of 0 bytes is
  * one of no steps, as a header with 0 steps is: do not lend a plan whose file could not be read. Of a VM whose CPU
- * is 0 only the memory is tested when it begins: it may enter a node that is over its CPU. */
-uint64_t kobdrieft_check(const uint8_t *cluster, size_t cluster_len, const uint8_t *plan, size_t plan_len);
+ * is 0 only the memory is tested when it begins: it may enter a node that is over its usable CPU. */
+uint64_t kobdrieft_check(uint64_t reserve, const uint8_t *cluster, size_t cluster_len, const uint8_t *plan,
+                         size_t plan_len);
 
 /* Plans for a cluster record. Of a plan and of blocked, the steps made stand as a plan record at the front
  * of `out`, of version 2, and the bytes behind it are as they were; a refusal changes no byte. */
-uint64_t kobdrieft_build(const uint8_t *cluster, size_t cluster_len, uint8_t *out, size_t out_len);
+uint64_t kobdrieft_build(uint64_t reserve, const uint8_t *cluster, size_t cluster_len, uint8_t *out,
+                         size_t out_len);
 
 #ifdef __cplusplus
 }
@@ -45,6 +59,7 @@ uint64_t kobdrieft_build(const uint8_t *cluster, size_t cluster_len, uint8_t *ou
 
 /* ---- limits */
 
+#define KOB_MAX_RESERVE 90           /* percent */
 #define KOB_MAX_NODES 64
 #define KOB_MAX_VMS 256
 #define KOB_MAX_CONSTRAINTS 128
@@ -80,7 +95,7 @@ static inline kob_outcome kob_outcome_of(uint64_t result)
     return (kob_outcome)(result >> 62);
 }
 
-/* A refusal's number, 1 to 19 or 27; 0 if the result is no refusal. */
+/* A refusal's number, 1 to 19, 23 or 27; 0 if the result is no refusal. */
 static inline unsigned kob_refusal_number(uint64_t result)
 {
     return kob_outcome_of(result) == KOB_REFUSED ? (unsigned)(result >> 16 & 0xff) : 0;
@@ -113,6 +128,7 @@ static inline uint64_t kob_cost(uint64_t result)
 /* ---- the refusals, in checking order */
 
 typedef enum {
+    KOB_FAULT_RESERVE = 23, /* those from here to 9: both calls */
     KOB_FAULT_CLUSTER_SHORT = 1,
     KOB_FAULT_CLUSTER_VERSION = 2,
     KOB_FAULT_CLUSTER_LENGTH = 3,
@@ -160,16 +176,19 @@ static inline uint8_t *kob_lent_out(uint8_t *bytes, size_t len)
 }
 
 /* `kobdrieft_check`, but with a length of 0 its pointer is not looked at and may be NULL. */
-static inline uint64_t kob_check(const uint8_t *cluster, size_t cluster_len, const uint8_t *plan,
-                                 size_t plan_len)
+static inline uint64_t kob_check(uint64_t reserve, const uint8_t *cluster, size_t cluster_len,
+                                 const uint8_t *plan, size_t plan_len)
 {
-    return kobdrieft_check(kob_lent(cluster, cluster_len), cluster_len, kob_lent(plan, plan_len), plan_len);
+    return kobdrieft_check(reserve, kob_lent(cluster, cluster_len), cluster_len, kob_lent(plan, plan_len),
+                           plan_len);
 }
 
 /* `kobdrieft_build`, but with a length of 0 its pointer is not looked at and may be NULL. */
-static inline uint64_t kob_build(const uint8_t *cluster, size_t cluster_len, uint8_t *out, size_t out_len)
+static inline uint64_t kob_build(uint64_t reserve, const uint8_t *cluster, size_t cluster_len, uint8_t *out,
+                                 size_t out_len)
 {
-    return kobdrieft_build(kob_lent(cluster, cluster_len), cluster_len, kob_lent_out(out, out_len), out_len);
+    return kobdrieft_build(reserve, kob_lent(cluster, cluster_len), cluster_len, kob_lent_out(out, out_len),
+                           out_len);
 }
 
 /* ---- numbers in records */
@@ -191,7 +210,7 @@ static inline size_t kob_plan_length(const uint8_t *record)
     return kob_number(record + 1, 4);
 }
 
-/* The node that a VM is on at the start, or KOB_NOWHERE, from a cluster record with none of the faults 1 to 9.
+/* The node that a VM is on at the start, or KOB_NOWHERE, from a cluster record with none of the faults 1 to 7.
  * Returns 0, and sets nothing, if the record has no such VM. Of other bytes it may give any number or none, but
  * it never reads outside them. */
 static inline int kob_vm_current(const uint8_t *cluster, size_t cluster_len, unsigned vm, unsigned *node)

@@ -16,6 +16,20 @@ void group(const char *name);
 /* The exit status: 1 if any test failed. */
 int status(void);
 
+/* Results as the calls return them. */
+uint64_t refused(unsigned number, unsigned step);
+uint64_t made(unsigned outcome, unsigned steps, unsigned moves, uint64_t cost);
+
+/* What a buffer has before a call. */
+#define FILL 0x5a
+
+/* Whether all these bytes have one value. */
+int all_are(const uint8_t *bytes, size_t len, uint8_t value);
+
+/* Allocations of just this size: a copy, and a buffer. */
+uint8_t *copied(const uint8_t *bytes, size_t len);
+uint8_t *filled(size_t len);
+
 struct record {
     uint8_t bytes[KOB_MAX_CLUSTER_BYTES + 1];
     size_t len;
@@ -23,6 +37,15 @@ struct record {
 
 /* Appends a number of so many bytes, big-endian. */
 void put(struct record *record, unsigned bytes, uint32_t number);
+
+/* Begins a cluster record of version 1 with so many rows and constraints; its length is not stated yet. */
+void put_cluster(struct record *cluster, uint32_t nodes, uint32_t vms, uint32_t constraints);
+
+/* Appends a node's row. */
+void put_node(struct record *cluster, uint32_t memory, uint32_t cpu);
+
+/* Appends a VM's row. */
+void put_vm(struct record *cluster, uint32_t memory, uint32_t cpu, uint32_t current, uint32_t target);
 
 /* Begins a plan record of a version with so many steps; its length is not stated yet. */
 void put_plan(struct record *plan, uint32_t version, uint32_t steps);
@@ -44,6 +67,11 @@ extern const uint8_t cluster_a[40];
 extern const uint8_t plan_a[22];
 extern const uint8_t plain_a[19];
 
+/* A in version 2: VM 0 is to shut down, VM 1 is down and to be launched on node 0, which has space for one. And
+ * its plan, 2 steps, cost 2. */
+void turnover(uint8_t cluster[sizeof cluster_a]);
+extern const uint8_t turnover_plan[17];
+
 /* Most nodes, VMs, constraints; 52,043 bytes. VM i goes from node i mod 64 to the next. */
 void full_room(struct record *cluster);
 
@@ -54,6 +82,10 @@ void full_plan(struct record *plan, uint32_t version);
 /* Most nodes and VMs, planned in CHAIN_STEPS steps of one move. */
 void chains(struct record *cluster);
 #define CHAIN_STEPS 500
+
+/* Reserves. Those above 90 are too high; with bits cut off some would not be. */
+#define RESERVES 10
+extern const uint64_t reserves[RESERVES];
 
 /* Pages with an inaccessible one on either side. */
 struct fenced {

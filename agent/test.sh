@@ -15,6 +15,11 @@ examples=$here/../examples
 work=$(mktemp -d)
 trap 'rm -rf "$work"' EXIT
 
+# The interface's version, and the two names that carry it.
+version=6
+check=kobdrieft_check_v$version
+build=kobdrieft_build_v$version
+
 cc=${CC:-cc}
 cxx=${CXX:-c++}
 strict=(-std=c99 -Wall -Wextra -Werror -pedantic -I "$libs")
@@ -74,8 +79,13 @@ only_memory() {
   [ -n "$names" ] && ! grep -vE '^mem(cpy|move|set|cmp)$' <<<"$names"
 }
 
+# names ARCHIVE: what it defines for others.
+names() {
+  nm -g --defined-only "$1" | awk 'NF == 3 { print $3 }' | sort
+}
+
 exports_two() {
-  [ "$(nm -g --defined-only "$archive" | awk 'NF == 3 { print $3 }' | sort)" = $'kobdrieft_build\nkobdrieft_check' ]
+  [ "$(names "$archive")" = "$build"$'\n'"$check" ]
 }
 
 # No byte that can be written, so no state.
@@ -90,6 +100,30 @@ takes_only() {
   nm "$work/one" | grep -q " T $1\$" && ! nm "$work/one" | grep "$2"
 }
 
+# unlinked NAME LINKING...: whether something does not link, and the linker says that this name is not there.
+unlinked() {
+  local name=$1
+  shift
+  ! LC_ALL=C "$cc" "$@" -o "$work/unlinked" 2>"$work/said" && cat "$work/said" && grep undefined "$work/said" | grep -qw "$name"
+}
+
+# without_header NAME PARAMETERS: whether a program that declares one of the two by itself, under its name in C, does not link.
+without_header() {
+  printf '#include <stddef.h>\n#include <stdint.h>\nuint64_t %s(%s);\nint main(void) { return %s(NULL, 0, NULL, 0) == 0; }\n' \
+    "$1" "$2" "$1" >"$work/own.c"
+  "$cc" "${strict[@]}" -c "$work/own.c" -o "$work/own.o" && unlinked "$1" "$work/own.o" "${link[@]}"
+}
+
+# without_version NAME CALL: whether a program with the header, which links, does not link with an archive of names without a version.
+without_version() {
+  mkdir -p "$work/plain-names"
+  echo 'int kobdrieft_check(void) { return 0; } int kobdrieft_build(void) { return 0; }' >"$work/names.c"
+  printf '#include <kobdrieft.h>\nint main(void) { return %s == 0; }\n' "$2" >"$work/call.c"
+  "$cc" -c "$work/names.c" -o "$work/names.o" && ar rc "$work/plain-names/libkobdrieft.a" "$work/names.o" &&
+    "$cc" "${strict[@]}" -c "$work/call.c" -o "$work/call.o" && "$cc" "$work/call.o" "${link[@]}" -o "$work/call" &&
+    unlinked "$1" "$work/call.o" -L "$work/plain-names" -lkobdrieft
+}
+
 # All of it, in a shared object that other programs may load anywhere.
 shared() {
   "$cc" -shared -Wl,-z,text -Wl,--whole-archive "$archive" -Wl,--no-whole-archive "$link_strict" -o "$work/shared.so"
@@ -97,10 +131,15 @@ shared() {
 
 archives() {
   expect "it calls only memory functions" only_memory
-  expect "it exports kobdrieft_build and kobdrieft_check alone" exports_two
+  expect "it exports $build and $check alone" exports_two
   expect "it has no data" no_data
-  expect "a program that only checks" takes_only kobdrieft_check kobdrieft_build
-  expect "a program that only plans" takes_only kobdrieft_build kobdrieft_check
+  expect "the header's version is $version" grep -x "#define KOBDRIEFT_VERSION $version" "$libs/kobdrieft.h"
+  expect "a program that only checks" takes_only "$check" "$build"
+  expect "a program that only plans" takes_only "$build" "$check"
+  expect "a check without header and reserve" without_header kobdrieft_check 'const uint8_t *, size_t, const uint8_t *, size_t'
+  expect "a build without header and reserve" without_header kobdrieft_build 'const uint8_t *, size_t, uint8_t *, size_t'
+  expect "a check by an archive without versions" without_version "$check" 'kob_check(0, NULL, 0, NULL, 0)'
+  expect "a build by an archive without versions" without_version "$build" 'kob_build(0, NULL, 0, NULL, 0)'
   expect "a shared object" shared
   group "archive"
 }
@@ -194,11 +233,11 @@ refuses() {
 
 # Where a program has a `helper` too, all three are called.
 helpers_apart() {
-  cat >"$work/helpers.c" <<'END'
-int kobdrieft_check(void);
-int kobdrieft_build(void);
+  cat >"$work/helpers.c" <<END
+int $check(void);
+int $build(void);
 int helper(void) { return 3; }
-int main(void) { return kobdrieft_check() == 1 && kobdrieft_build() == 2 && helper() == 3 ? 0 : 1; }
+int main(void) { return $check() == 1 && $build() == 2 && helper() == 3 ? 0 : 1; }
 END
   "$cc" "$work/helpers.c" -L "$tree/out" -lkobdrieft -o "$work/helpers" && "$work/helpers"
 }
@@ -230,7 +269,7 @@ lib_archives() {
   plant && rm "$tree/static/libplanner.a"
   expect "no libplanner.a" refuses 'libplanner.a is missing' lib
   plant && library rules 'int checks(void) { return 1; }'
-  expect "no check in librules.a" refuses 'must define kobdrieft_build and kobdrieft_check alone' lib
+  expect "no check in librules.a" refuses "must define $build and $check alone" lib
   plant && library planner 'int puts(const char *); int build(void) { return puts(""); }'
   expect "a planner that prints" refuses 'calls puts' lib
   plant && library rules '#include <string.h>
@@ -251,8 +290,27 @@ edited() {
   expect "$1 changed by $2" refuses "$3" lib
 }
 
+# Both names must carry the version that the header states.
+lib_names() {
+  local header=agent/kobdrieft.h line='must have the line #define'
+  edited $header '/^#define KOBDRIEFT_VERSION /d' "$line KOBDRIEFT_VERSION NUMBER once"
+  edited $header '/^#define KOBDRIEFT_VERSION /p' "$line KOBDRIEFT_VERSION NUMBER once"
+  edited $header 's/^\(#define KOBDRIEFT_VERSION\) .*/\1/' "$line KOBDRIEFT_VERSION NUMBER once"
+  edited $header 's/^\(#define KOBDRIEFT_VERSION\) .*/\1 six/' "$line KOBDRIEFT_VERSION NUMBER once"
+  edited $header 's/^#define KOBDRIEFT_VERSION .*/&0/' "$line kobdrieft_check ${check}0 once"
+  edited $header 's/^\(#define kobdrieft_check\) .*/\1 kobdrieft_check_v1/' "$line kobdrieft_check $check once"
+  edited $header 's/^#define kobdrieft_build .*/&0/' "$line kobdrieft_build $build once"
+  edited $header "s/^\\(#define kobdrieft_build\\) .*/\\1 $check/" "$line kobdrieft_build $build once"
+  edited $header '/^#define kobdrieft_build /d' "$line kobdrieft_build $build once"
+  edited $header '/^#define kobdrieft_build /p' "$line kobdrieft_build $build once"
+  plant && sed -i 's/^\(#define KOBDRIEFT_VERSION \).*/\1987/; s/^\(#define kobdrieft_.*_v\).*/\1987/' "$tree/$header"
+  expect "another version" makes
+  expect "the names of another version" test "$(names "$tree/out/libkobdrieft.a")" = $'kobdrieft_build_v987\nkobdrieft_check_v987'
+}
+
 lib_texts() {
   local page=docs/REFUSALS.md
+  edited $page '/^| 23 |/d' 'number 23 is missing'
   edited $page '/^| 1 |/d' 'number 1 is missing'
   edited $page '/^| 7 |/d' 'number 7 is missing'
   edited $page '/^| 19 |/d' 'number 19 is missing'
@@ -262,7 +320,7 @@ lib_texts() {
   edited $page 's/^| 7 | [^|]*|/| 7 | |/' 'is no row'
   edited $page 's/^| 7 |/| 7 | more |/' 'is no row'
   edited $page 's/^| 7 |/| seven |/' 'is no row'
-  edited $page 's/what it means/meaning/' 'number 1 is missing'
+  edited $page 's/what it means/meaning/' 'number 23 is missing'
   edited agent/kobdrieft.h '/kobdrieft_texts/d' 'must have the line'
   edited agent/kobdrieft.h '/kobdrieft_texts/p' 'must have the line'
 }
@@ -281,6 +339,7 @@ later_text() {
 
 lib_tests() {
   lib_archives
+  lib_names
   lib_texts
   expect "a later number" later_text
   group "lib.sh"
@@ -308,16 +367,20 @@ builds() {
   program "$label" agent agent.c -- "$@"
   program "$label" test_header test_header.c test_common.c test_pages.c -- "$@"
   program "$label" test_reader test_reader.c test_common.c test_pages.c -- "$@"
+  program "$label" test_reserve test_reserve.c test_common.c -- "$@"
   program "$label" test_names test_names.c test_common.c -- "$@"
   group "$label: built without a warning"
 }
 
 # The test of threads and stacks, and the example of README.md.
 more_builds() {
+  local standard
   program plain test_threads test_threads.c test_common.c -- -O2 -pthread
   # shellcheck disable=SC2016
   sed -n '/^```c$/,/^```$/p' "$here/README.md" | sed '1d;$d' >"$work/example.c"
-  expect "the example" "$cc" "${strict[@]}" "$work/example.c" "${link[@]}" -o "$work/example"
+  for standard in c17 c11 c99; do
+    expect "the example as $standard" "$cc" "${strict[@]}" -std=$standard "$work/example.c" "${link[@]}" -o "$work/example"
+  done
   expect "the example on A" example_says $'steps 3, moves 3, accepted\n1: VM 0 from 0 to 2\n2: VM 1 from 1 to 0\n3: VM 0 from 2 to 1' "$work/a"
   expect "the example, blocked" example_says 'steps 0, moves 0, blocked' "$work/stuck"
   expect "the example, refused" example_says "$(text_of 6)" "$work/damaged"
@@ -344,9 +407,16 @@ cplusplus() {
 static bool refuses_nothing()
 {
     unsigned char out[KOB_BUILD_BUFFER];
-    return kob_refusal_number(kob_build(nullptr, 0, out, sizeof out)) == KOB_FAULT_CLUSTER_SHORT
-           && kob_refusal_number(kob_check(nullptr, 0, nullptr, 0)) == KOB_FAULT_CLUSTER_SHORT
+    return kob_refusal_number(kob_build(0, nullptr, 0, out, sizeof out)) == KOB_FAULT_CLUSTER_SHORT
+           && kob_refusal_number(kob_check(0, nullptr, 0, nullptr, 0)) == KOB_FAULT_CLUSTER_SHORT
            && kob_fault_text(KOB_FAULT_CLUSTER_SHORT)[0] != 0;
+}
+
+static bool refuses_a_reserve()
+{
+    unsigned char bytes[1] = {0}, out[1] = {0};
+    return kob_refusal_number(kobdrieft_build(KOB_MAX_RESERVE + 1, bytes, 1, out, 1)) == KOB_FAULT_RESERVE
+           && kob_refusal_number(kobdrieft_check(KOB_MAX_RESERVE + 1, bytes, 1, out, 1)) == KOB_FAULT_RESERVE;
 }
 
 static bool reads_a_plan()
@@ -362,7 +432,7 @@ static bool reads_a_plan()
 
 int main()
 {
-    return refuses_nothing() && reads_a_plan() ? 0 : 1;
+    return refuses_nothing() && refuses_a_reserve() && reads_a_plan() ? 0 : 1;
 }
 END
   for standard in c++11 c++17 c++20; do
@@ -454,10 +524,15 @@ planning_line() {
     s/^agent: refused, number ([0-9]+); .*/refused \1 step 0/'
 }
 
-# as_expected NAME: whether the agent says of an example what the planning program does, and ends as it should.
+# as_expected NAME: whether the agent says of an example what the planning program does, and ends as it should. NAME.reserve-R is cluster
+# NAME at reserve R.
 as_expected() {
-  local name=$1 status wanted=0
-  "$agent" "$examples/$name.cluster" "$work/got" >"$work/said"
+  local name=$1 cluster=$1 options=() status wanted=0
+  if [[ $name =~ ^(.+)\.reserve-([0-9]+)$ ]]; then
+    cluster=${BASH_REMATCH[1]}
+    options=(--reserve "${BASH_REMATCH[2]}")
+  fi
+  "$agent" "${options[@]}" "$examples/$cluster.cluster" "$work/got" >"$work/said"
   status=$?
   case $(cat "$examples/$name.expected") in
   blocked*) wanted=1 ;;
@@ -495,6 +570,45 @@ agent_answers() {
   expect "65,535 bytes, stated" keeps 2 'refused, number 5; nothing written. ' "$work/most"
 }
 
+# at_zero CLUSTER: whether the agent says and writes at reserve 0 what it does without the option.
+at_zero() {
+  local status
+  echo before | tee "$work/got" >"$work/kept"
+  "$agent" --keep-blocked "$1" "$work/got" >"$work/without"
+  status=$?
+  "$agent" --reserve 0 --keep-blocked "$1" "$work/kept" >"$work/said"
+  [ $? -eq "$status" ] && sed "s|$work/kept|$work/got|" "$work/said" | diff "$work/without" - && cmp "$work/got" "$work/kept"
+}
+
+# Of memory 4, A's nodes have 3 at reserve 25, and 2 at 26; VM 0 needs 3.
+agent_reserves() {
+  local name reserve
+  for name in a five stuck half damaged overfull empty long; do
+    expect "$name at reserve 0" at_zero "$work/$name"
+  done
+  for reserve in 0 1 10 25 00000000000000000000025; do
+    expect "A at reserve $reserve" writes 0 'plan: steps 3, moves 3, cost 16; written' "$work/plan" --reserve $reserve "$work/a"
+  done
+  for reserve in 26 90; do
+    expect "A at reserve $reserve" keeps 2 "agent: refused, number 8; nothing written. $(text_of 8)" --reserve $reserve "$work/a"
+  done
+  for reserve in 91 256 4294967306 18446744073709551615 18446744073709551616 18446744073709551626 999999999999999999999999; do
+    expect "A at reserve $reserve" keeps 2 "agent: refused, number 23; nothing written. $(text_of 23)" --reserve $reserve "$work/a"
+  done
+  for reserve in '' -1 +5 10x x10 ' 10' '10 ' 0x10 1e1 10.0 10% - --; do
+    expect "A at reserve '$reserve'" keeps 3 'usage: ' --reserve "$reserve" "$work/a"
+  done
+  expect "memory 5 at reserve 1" writes 0 'plan: steps 3, moves 3, cost 16; written' "$work/plan" --reserve 1 "$work/five"
+  expect "an empty file at reserve 91" keeps 2 'refused, number 23; nothing written. ' --reserve 91 "$work/empty"
+  expect "memory 0 at reserve 91" keeps 2 'refused, number 23; nothing written. ' --reserve 91 "$work/damaged"
+  expect "a missing file at reserve 91" keeps 3 'cannot read' --reserve 91 "$work/nowhere"
+  expect "both options" writes 1 'these steps written' "$work/no-steps" --reserve 10 --keep-blocked "$work/stuck"
+  expect "the other one first" writes 1 'these steps written' "$work/no-steps" --keep-blocked --reserve 10 "$work/stuck"
+  expect "two reserves" keeps 3 'usage: ' --reserve 10 --reserve 10 "$work/a"
+  expect "no percent" says 3 'usage: ' "$work/a" "$work/got" --reserve
+  expect "a percent in the same word" keeps 3 'usage: ' --reserve=10 "$work/a"
+}
+
 agent_faults() {
   expect "a missing file" keeps 3 'cannot read' "$work/nowhere"
   expect "a folder" keeps 3 'cannot read' "$work"
@@ -520,6 +634,7 @@ agents() {
   agent=$work/$1/agent
   agent_moves
   agent_answers
+  agent_reserves
   agent_faults
   group "$1: agent"
 }
@@ -528,7 +643,7 @@ agents() {
 wrong() {
   local i
   agent=$work/wrong
-  for i in 1 2 3 4 5 6 7 8 9 10 11; do
+  for i in 1 2 3 4 5 6 7 8 9 10 11 12; do
     expect "wrong library $i" "$cc" "${strict[@]}" "${sanitize[@]}" -DWRONG=$i "$here/agent.c" \
       "$here/test_wrong.c" -o "$agent"
     expect "disagreement $i" keeps 5 'planner and checker disagree' --keep-blocked "$work/a"
@@ -545,7 +660,7 @@ builds sanitized "${sanitize[@]}"
 more_builds
 cplusplus
 for label in plain sanitized; do
-  for name in test_names test_header test_reader; do
+  for name in test_names test_header test_reader test_reserve; do
     run "$label" "$work/$label/$name"
   done
 done

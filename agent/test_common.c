@@ -1,5 +1,7 @@
 /* Counting, and the records that the test programs use. */
 #include <stdio.h>
+#include <stdlib.h>
+#include <string.h>
 
 #include "test.h"
 
@@ -28,6 +30,46 @@ int status(void)
     return any_failed;
 }
 
+/* ---- results and buffers */
+
+uint64_t refused(unsigned number, unsigned step)
+{
+    return (uint64_t)2 << 62 | (uint64_t)number << 16 | step;
+}
+
+uint64_t made(unsigned outcome, unsigned steps, unsigned moves, uint64_t cost)
+{
+    return (uint64_t)outcome << 62 | (uint64_t)steps << 53 | (uint64_t)moves << 44 | cost;
+}
+
+int all_are(const uint8_t *bytes, size_t len, uint8_t value)
+{
+    for (size_t i = 0; i < len; i++)
+        if (bytes[i] != value)
+            return 0;
+    return 1;
+}
+
+uint8_t *copied(const uint8_t *bytes, size_t len)
+{
+    uint8_t *copy = malloc(len);
+    if (copy == NULL)
+        exit(1);
+    memcpy(copy, bytes, len);
+    return copy;
+}
+
+uint8_t *filled(size_t len)
+{
+    uint8_t *bytes = malloc(len);
+    if (bytes == NULL)
+        exit(1);
+    memset(bytes, FILL, len);
+    return bytes;
+}
+
+/* ---- A */
+
 const uint8_t cluster_a[40] = {
     1, 0, 0, 0, 40, 0, 3, 0, 2, 0, 0,                  /* header: 3 nodes, 2 VMs, no constraint */
     0, 0, 4, 0, 100, 0, 0, 4, 0, 100, 0, 0, 4, 0, 100, /* nodes: memory 4, CPU 100 */
@@ -38,6 +80,24 @@ const uint8_t plan_a[22] = {2, 0, 0, 0, 22, 0, 3, 0, 1, 0, 0, 2, 0, 1, 1, 1, 0, 
 
 const uint8_t plain_a[19] = {1, 0, 0, 0, 19, 0, 3, 0, 1, 0, 2, 0, 1, 1, 0, 0, 1, 0, 1};
 
+void turnover(uint8_t cluster[sizeof cluster_a])
+{
+    memcpy(cluster, cluster_a, sizeof cluster_a);
+    cluster[0] = 2;
+    cluster[32] = KOB_NOWHERE; /* VM 0's target */
+    cluster[38] = KOB_NOWHERE; /* VM 1's current node */
+}
+
+const uint8_t turnover_plan[17] = {2, 0, 0, 0, 17, 0, 2, 0, 1, 0, 0, 255, 0, 1, 1, 255, 0};
+
+/* ---- reserves */
+
+const uint64_t reserves[RESERVES] = {
+    0, 10, KOB_MAX_RESERVE,                                        /* good */
+    KOB_MAX_RESERVE + 1, 256, 65546,                               /* too high */
+    (uint64_t)1 << 32, ((uint64_t)1 << 32) + 10, (uint64_t)1 << 63, UINT64_MAX
+};
+
 /* ---- writing records */
 
 void put(struct record *record, unsigned bytes, uint32_t number)
@@ -46,7 +106,7 @@ void put(struct record *record, unsigned bytes, uint32_t number)
         record->bytes[record->len++] = (uint8_t)(number >> 8 * bytes);
 }
 
-static void put_header(struct record *cluster, uint32_t nodes, uint32_t vms, uint32_t constraints)
+void put_cluster(struct record *cluster, uint32_t nodes, uint32_t vms, uint32_t constraints)
 {
     cluster->len = 0;
     put(cluster, 1, 1);
@@ -56,13 +116,13 @@ static void put_header(struct record *cluster, uint32_t nodes, uint32_t vms, uin
     put(cluster, 2, constraints);
 }
 
-static void put_node(struct record *cluster, uint32_t memory, uint32_t cpu)
+void put_node(struct record *cluster, uint32_t memory, uint32_t cpu)
 {
     put(cluster, 3, memory);
     put(cluster, 2, cpu);
 }
 
-static void put_vm(struct record *cluster, uint32_t memory, uint32_t cpu, uint32_t current, uint32_t target)
+void put_vm(struct record *cluster, uint32_t memory, uint32_t cpu, uint32_t current, uint32_t target)
 {
     put(cluster, 3, memory);
     put(cluster, 2, cpu);
@@ -136,7 +196,7 @@ static void put_latency(struct record *cluster)
 
 void full_room(struct record *cluster)
 {
-    put_header(cluster, KOB_MAX_NODES, KOB_MAX_VMS, KOB_MAX_CONSTRAINTS);
+    put_cluster(cluster, KOB_MAX_NODES, KOB_MAX_VMS, KOB_MAX_CONSTRAINTS);
     for (int i = 0; i < KOB_MAX_NODES; i++)
         put_node(cluster, 16777215, 65535);
     for (uint32_t i = 0; i < KOB_MAX_VMS; i++)
@@ -193,7 +253,7 @@ static uint32_t bears(uint32_t node)
 
 void chains(struct record *cluster)
 {
-    put_header(cluster, KOB_MAX_NODES, KOB_MAX_VMS, 0);
+    put_cluster(cluster, KOB_MAX_NODES, KOB_MAX_VMS, 0);
     for (uint32_t node = 0; node < KOB_MAX_NODES; node++)
         put_node(cluster, bears(node), 0);
     for (uint32_t chain = 0; chain < 4; chain++) {

@@ -4,27 +4,6 @@
 
 #include "test.h"
 
-#define FILL 0x5a
-
-static uint64_t refused(unsigned number, unsigned step)
-{
-    return (uint64_t)2 << 62 | (uint64_t)number << 16 | step;
-}
-
-static uint64_t made(unsigned outcome, unsigned steps, unsigned moves, uint64_t cost)
-{
-    return (uint64_t)outcome << 62 | (uint64_t)steps << 53 | (uint64_t)moves << 44 | cost;
-}
-
-/* Whether all these bytes have one value. */
-static int all_are(const uint8_t *bytes, size_t len, uint8_t value)
-{
-    for (size_t i = 0; i < len; i++)
-        if (bytes[i] != value)
-            return 0;
-    return 1;
-}
-
 /* ---- unpackers and texts */
 
 static void test_unpackers(void)
@@ -66,18 +45,19 @@ static void test_texts(void)
         int differs = 1;
         for (unsigned other = 0; other < number; other++)
             differs = differs && strcmp(text, kob_fault_text(other)) != 0;
-        if (number <= KOB_FAULT_OFF_TARGET || number == KOB_FAULT_ELSEWHERE)
+        if (number <= KOB_FAULT_OFF_TARGET || number == KOB_FAULT_RESERVE || number == KOB_FAULT_ELSEWHERE)
             expect(is_line(text) && differs, "a text for each number");
         else
-            expect(strcmp(text, "Unknown number.") == 0, "no text for a number between 19 and 27");
+            expect(strcmp(text, "Unknown number.") == 0, "no text for another number between 19 and 27");
     }
     expect(strstr(kob_fault_text(KOB_FAULT_CLUSTER_SHORT), "11 bytes") != NULL, "text 1");
     expect(strstr(kob_fault_text(KOB_FAULT_BUFFER_SHORT), "2,562") != NULL, "text 10");
     expect(strstr(kob_fault_text(KOB_FAULT_OFF_TARGET), "target") != NULL, "text 19");
+    expect(strstr(kob_fault_text(KOB_FAULT_RESERVE), "reserve") != NULL, "text 23");
     expect(strstr(kob_fault_text(KOB_FAULT_ELSEWHERE), "source") != NULL, "text 27");
     expect(strcmp(kob_fault_text(256), "Unknown number.") == 0, "text of 256");
     expect(strcmp(kob_fault_text(~0u), "Unknown number.") == 0, "text of the largest number");
-    expect(KOBDRIEFT_VERSION == 5, "the interface's version");
+    expect(KOBDRIEFT_VERSION == 6, "the interface's version");
     group("texts");
 }
 
@@ -88,14 +68,14 @@ static void test_empty(void)
     uint8_t out[KOB_BUILD_BUFFER];
     uint8_t *astray = (uint8_t *)(uintptr_t)1;
     memset(out, FILL, sizeof out);
-    expect(kob_check(NULL, 0, NULL, 0) == refused(1, 0), "check, both NULL");
-    expect(kob_check(NULL, 0, plan_a, sizeof plan_a) == refused(1, 0), "check, cluster NULL");
-    expect(kob_check(cluster_a, sizeof cluster_a, NULL, 0) == refused(19, 0), "check, plan NULL");
-    expect(kob_check(cluster_a, sizeof cluster_a, astray, 0) == refused(19, 0), "check, plan astray");
-    expect(kob_build(NULL, 0, NULL, 0) == refused(1, 0), "build, both NULL");
-    expect(kob_build(NULL, 0, out, sizeof out) == refused(1, 0), "build, cluster NULL");
-    expect(kob_build(cluster_a, sizeof cluster_a, NULL, 0) == refused(10, 0), "build, buffer NULL");
-    expect(kob_build(cluster_a, sizeof cluster_a, astray, 0) == refused(10, 0), "build, buffer astray");
+    expect(kob_check(0, NULL, 0, NULL, 0) == refused(1, 0), "check, both NULL");
+    expect(kob_check(0, NULL, 0, plan_a, sizeof plan_a) == refused(1, 0), "check, cluster NULL");
+    expect(kob_check(0, cluster_a, sizeof cluster_a, NULL, 0) == refused(19, 0), "check, plan NULL");
+    expect(kob_check(0, cluster_a, sizeof cluster_a, astray, 0) == refused(19, 0), "check, plan astray");
+    expect(kob_build(0, NULL, 0, NULL, 0) == refused(1, 0), "build, both NULL");
+    expect(kob_build(0, NULL, 0, out, sizeof out) == refused(1, 0), "build, cluster NULL");
+    expect(kob_build(0, cluster_a, sizeof cluster_a, NULL, 0) == refused(10, 0), "build, buffer NULL");
+    expect(kob_build(0, cluster_a, sizeof cluster_a, astray, 0) == refused(10, 0), "build, buffer astray");
     expect(all_are(out, sizeof out, FILL), "refusals write nothing");
     group("length 0");
 }
@@ -109,10 +89,10 @@ static const uint8_t no_steps_2[] = {2, 0, 0, 0, 7, 0, 0};
  * refusal's number, or 0. */
 static int as_header(const uint8_t *cluster, size_t len, unsigned *number)
 {
-    uint64_t verdict = kob_check(cluster, len, NULL, 0);
+    uint64_t verdict = kob_check(0, cluster, len, NULL, 0);
     *number = kob_refusal_number(verdict);
-    return verdict == kob_check(cluster, len, no_steps, sizeof no_steps)
-           && verdict == kob_check(cluster, len, no_steps_2, sizeof no_steps_2);
+    return verdict == kob_check(0, cluster, len, no_steps, sizeof no_steps)
+           && verdict == kob_check(0, cluster, len, no_steps_2, sizeof no_steps_2);
 }
 
 /* A with one byte of each value, whole and cut behind that byte; `hit` counts the numbers. */
@@ -141,11 +121,11 @@ static void test_no_plan(void)
     memcpy(home, cluster_a, sizeof home);
     home[32] = 0; /* VM 0's target */
     home[39] = 1; /* VM 1's */
-    expect(kob_check(home, sizeof home, NULL, 0) == 0, "at home: accepted at cost 0");
+    expect(kob_check(0, home, sizeof home, NULL, 0) == 0, "at home: accepted at cost 0");
     expect(as_header(home, sizeof home, &number), "at home: as a header");
     for (size_t len = 1; len < sizeof no_steps; len++) {
-        expect(kob_check(home, sizeof home, no_steps, len) == refused(11, 0), "at home: 1 to 6 bytes");
-        expect(kob_check(home, sizeof home, no_steps_2, len) == refused(11, 0), "at home: version 2");
+        expect(kob_check(0, home, sizeof home, no_steps, len) == refused(11, 0), "at home: 1 to 6 bytes");
+        expect(kob_check(0, home, sizeof home, no_steps_2, len) == refused(11, 0), "at home: version 2");
     }
     expect(changed_as_header(hit), "A, a byte changed: as a header");
     expect(hit[1] && hit[2] && hit[3] && hit[4] && hit[5] && hit[6], "damaged clusters among them");
@@ -156,37 +136,18 @@ static void test_no_plan(void)
 
 /* ---- cluster A, in allocations of exactly the stated sizes */
 
-/* A copy in an allocation of just its size. */
-static uint8_t *copy(const uint8_t *bytes, size_t len)
-{
-    uint8_t *copied = malloc(len);
-    if (copied == NULL)
-        exit(1);
-    memcpy(copied, bytes, len);
-    return copied;
-}
-
-static uint8_t *filled(size_t len)
-{
-    uint8_t *bytes = malloc(len);
-    if (bytes == NULL)
-        exit(1);
-    memset(bytes, FILL, len);
-    return bytes;
-}
-
 static void test_build_a(void)
 {
-    uint8_t *cluster = copy(cluster_a, sizeof cluster_a);
+    uint8_t *cluster = copied(cluster_a, sizeof cluster_a);
     uint8_t *out = filled(KOB_BUILD_BUFFER);
-    uint64_t result = kob_build(cluster, sizeof cluster_a, out, KOB_BUILD_BUFFER);
+    uint64_t result = kob_build(0, cluster, sizeof cluster_a, out, KOB_BUILD_BUFFER);
     expect(result == made(KOB_PLAN, 3, 3, 16), "A: a plan of 3 steps, 3 moves, cost 16");
     expect(out[0] == KOB_BUILD_VERSION, "A: the version of the record");
     expect(memcmp(out, plan_a, sizeof plan_a) == 0, "A: the record of 22 bytes");
     expect(all_are(out + 22, KOB_BUILD_BUFFER - 22, FILL), "A: the bytes behind it stay");
     expect(memcmp(cluster, cluster_a, sizeof cluster_a) == 0, "A: the cluster stays");
-    expect(kob_check(cluster, sizeof cluster_a, out, kob_plan_length(out)) == 16, "A: accepted at 16");
-    expect(kob_check(cluster, sizeof cluster_a, out, KOB_BUILD_BUFFER) == refused(13, 0), "A: whole buffer");
+    expect(kob_check(0, cluster, sizeof cluster_a, out, kob_plan_length(out)) == 16, "A: accepted at 16");
+    expect(kob_check(0, cluster, sizeof cluster_a, out, KOB_BUILD_BUFFER) == refused(13, 0), "A: whole buffer");
     free(cluster);
     free(out);
 }
@@ -194,7 +155,7 @@ static void test_build_a(void)
 static void test_short_buffer(void)
 {
     uint8_t *out = filled(KOB_BUILD_BUFFER - 1);
-    uint64_t result = kob_build(cluster_a, sizeof cluster_a, out, KOB_BUILD_BUFFER - 1);
+    uint64_t result = kob_build(0, cluster_a, sizeof cluster_a, out, KOB_BUILD_BUFFER - 1);
     expect(result == refused(KOB_FAULT_BUFFER_SHORT, 0), "A: 2,561 bytes give 10");
     expect(all_are(out, KOB_BUILD_BUFFER - 1, FILL), "A: 2,561 bytes stay");
     free(out);
@@ -203,9 +164,9 @@ static void test_short_buffer(void)
 /* The verdict on a plan for A, both in allocations of just their size. */
 static uint64_t verdict_on_a(const uint8_t *bytes, size_t len)
 {
-    uint8_t *cluster = copy(cluster_a, sizeof cluster_a);
-    uint8_t *plan = copy(bytes, len);
-    uint64_t verdict = kob_check(cluster, sizeof cluster_a, plan, len);
+    uint8_t *cluster = copied(cluster_a, sizeof cluster_a);
+    uint8_t *plan = copied(bytes, len);
+    uint64_t verdict = kob_check(0, cluster, sizeof cluster_a, plan, len);
     free(cluster);
     free(plan);
     return verdict;
@@ -252,14 +213,14 @@ static void test_sources(void)
 
 static void test_blocked(void)
 {
-    uint8_t *cluster = copy(cluster_a, sizeof cluster_a);
+    uint8_t *cluster = copied(cluster_a, sizeof cluster_a);
     uint8_t *out = filled(KOB_BUILD_BUFFER);
     cluster[23] = 1; /* node 2's memory */
-    uint64_t result = kob_build(cluster, sizeof cluster_a, out, KOB_BUILD_BUFFER);
+    uint64_t result = kob_build(0, cluster, sizeof cluster_a, out, KOB_BUILD_BUFFER);
     expect(result == made(KOB_BLOCKED, 0, 0, 0), "blocked");
     expect(memcmp(out, no_steps_2, 7) == 0, "blocked: a record of no steps");
     expect(all_are(out + 7, KOB_BUILD_BUFFER - 7, FILL), "blocked: the bytes behind it stay");
-    expect(kob_check(cluster, sizeof cluster_a, out, 7) == refused(19, 0), "blocked: refused 19, step 0");
+    expect(kob_check(0, cluster, sizeof cluster_a, out, 7) == refused(19, 0), "blocked: refused 19, step 0");
     free(cluster);
     free(out);
 }
@@ -276,17 +237,6 @@ static void test_cluster_a(void)
 
 /* ---- VMs that are launched and shut down */
 
-/* A in version 2: VM 0 is to shut down, VM 1 is down and to be launched on node 0, which has space for one. */
-static void turnover(uint8_t cluster[sizeof cluster_a])
-{
-    memcpy(cluster, cluster_a, sizeof cluster_a);
-    cluster[0] = 2;
-    cluster[32] = KOB_NOWHERE; /* VM 0's target */
-    cluster[38] = KOB_NOWHERE; /* VM 1's current node */
-}
-
-static const uint8_t turnover_plan[17] = {2, 0, 0, 0, 17, 0, 2, 0, 1, 0, 0, 255, 0, 1, 1, 255, 0};
-
 /* The launch waits a step for the memory that the shutdown leaves: cost 0 + (2 + 0). */
 static void test_turnover_built(void)
 {
@@ -294,14 +244,15 @@ static void test_turnover_built(void)
     uint8_t *out = filled(KOB_BUILD_BUFFER);
     unsigned node;
     turnover(cluster);
-    expect(kob_build(cluster, sizeof cluster, out, KOB_BUILD_BUFFER) == made(KOB_PLAN, 2, 2, 2), "two steps, cost 2");
+    expect(kob_build(0, cluster, sizeof cluster, out, KOB_BUILD_BUFFER) == made(KOB_PLAN, 2, 2, 2),
+           "two steps, cost 2");
     expect(memcmp(out, turnover_plan, sizeof turnover_plan) == 0, "a shutdown, then a launch");
     expect(all_are(out + 17, KOB_BUILD_BUFFER - 17, FILL), "the bytes behind the record stay");
-    expect(kob_check(cluster, sizeof cluster, out, kob_plan_length(out)) == 2, "accepted at cost 2");
+    expect(kob_check(0, cluster, sizeof cluster, out, kob_plan_length(out)) == 2, "accepted at cost 2");
     expect(kob_vm_current(cluster, sizeof cluster, 1, &node) && node == KOB_NOWHERE, "VM 1 is on no node");
     cluster[0] = 1;
     memset(out, FILL, KOB_BUILD_BUFFER);
-    expect(kob_build(cluster, sizeof cluster, out, KOB_BUILD_BUFFER) == refused(6, 0), "255 in version 1 is 6");
+    expect(kob_build(0, cluster, sizeof cluster, out, KOB_BUILD_BUFFER) == refused(6, 0), "255 in version 1 is 6");
     expect(all_are(out, KOB_BUILD_BUFFER, FILL), "a refusal writes nothing");
     free(out);
 }
@@ -311,7 +262,7 @@ static uint64_t verdict_on_turnover(const uint8_t *plan, size_t len)
 {
     uint8_t cluster[sizeof cluster_a];
     turnover(cluster);
-    return kob_check(cluster, sizeof cluster, plan, len);
+    return kob_check(0, cluster, sizeof cluster, plan, len);
 }
 
 static void test_turnover_checked(void)
@@ -325,7 +276,7 @@ static void test_turnover_checked(void)
     expect(verdict_on_turnover(both, sizeof both) == refused(17, 1), "a shutdown pays for no launch of its step");
     expect(verdict_on_turnover(down, sizeof down) == refused(15, 1), "what is wanted on a node is not shut down");
     expect(verdict_on_turnover(kill, sizeof kill) == refused(19, 0), "the launch left out");
-    expect(kob_check(cluster_a, sizeof cluster_a, kill, sizeof kill) == refused(15, 1), "no shutdown in version 1");
+    expect(kob_check(0, cluster_a, sizeof cluster_a, kill, sizeof kill) == refused(15, 1), "no shutdown in version 1");
     memcpy(source, turnover_plan, sizeof source);
     source[15] = 0; /* the launch's source */
     expect(verdict_on_turnover(source, sizeof source) == refused(27, 2), "a launch comes from no node");
@@ -344,7 +295,7 @@ static void test_places(void)
             cluster[0] = (uint8_t)version;
             for (unsigned place = 0; place < 256; place++) {
                 cluster[byte] = (uint8_t)place;
-                uint64_t verdict = kob_check(cluster, sizeof cluster, NULL, 0);
+                uint64_t verdict = kob_check(0, cluster, sizeof cluster, NULL, 0);
                 int known = place < 3 || (place == KOB_NOWHERE && version == 2);
                 good = good && (known ? kob_refusal_number(verdict) != 6 : verdict == refused(6, 0));
             }
@@ -355,7 +306,7 @@ static void test_places(void)
     for (unsigned version = 0; version < 256; version++) {
         cluster[0] = (uint8_t)version;
         uint64_t wanted = version == 1 || version == 2 ? refused(19, 0) : refused(2, 0);
-        good = good && kob_check(cluster, sizeof cluster, NULL, 0) == wanted;
+        good = good && kob_check(0, cluster, sizeof cluster, NULL, 0) == wanted;
     }
     expect(good, "the versions of a cluster record");
 }
@@ -383,7 +334,7 @@ static void busy(uint8_t cluster[sizeof cluster_a], uint8_t cpu)
 static uint64_t verdict_on_busy(const uint8_t cluster[sizeof cluster_a])
 {
     static const uint8_t both[] = {1, 0, 0, 0, 13, 0, 1, 0, 2, 0, 1, 1, 0};
-    return kob_check(cluster, sizeof cluster_a, both, sizeof both);
+    return kob_check(0, cluster, sizeof cluster_a, both, sizeof both);
 }
 
 static void test_idle(void)
@@ -392,16 +343,16 @@ static void test_idle(void)
     uint8_t *out = filled(KOB_BUILD_BUFFER);
     busy(cluster, 0);
     expect(verdict_on_busy(cluster) == 5, "an idle VM enters a node over its CPU");
-    expect(kob_build(cluster, sizeof cluster, out, KOB_BUILD_BUFFER) == made(KOB_PLAN, 1, 2, 5), "planned so");
+    expect(kob_build(0, cluster, sizeof cluster, out, KOB_BUILD_BUFFER) == made(KOB_PLAN, 1, 2, 5), "planned so");
     cluster[18] = 4;
     expect(verdict_on_busy(cluster) == refused(17, 1), "but no node over its memory");
     busy(cluster, 1);
     expect(verdict_on_busy(cluster) == refused(17, 1), "a VM of CPU 1 does not enter");
-    expect(kob_build(cluster, sizeof cluster, out, KOB_BUILD_BUFFER) == made(KOB_PLAN, 2, 2, 7), "it waits a step");
+    expect(kob_build(0, cluster, sizeof cluster, out, KOB_BUILD_BUFFER) == made(KOB_PLAN, 2, 2, 7), "it waits a step");
     busy(cluster, 0);
     cluster[39] = 1; /* VM 1's target */
     expect(verdict_on_busy(cluster) == refused(8, 0), "a target over its CPU");
-    expect(kob_build(cluster, sizeof cluster, out, KOB_BUILD_BUFFER) == refused(8, 0), "is not planned for");
+    expect(kob_build(0, cluster, sizeof cluster, out, KOB_BUILD_BUFFER) == refused(8, 0), "is not planned for");
     free(out);
     group("idle VMs");
 }
@@ -412,29 +363,30 @@ static struct fenced cluster_fence, plan_fence;
 
 /* Whether `kobdrieft_check` gives the same against the pages, each record at either side, as in plain
  * memory. */
-static int check_stays(const uint8_t *cluster, size_t cluster_len, const uint8_t *plan, size_t plan_len)
+static int check_stays(uint64_t reserve, const uint8_t *cluster, size_t cluster_len, const uint8_t *plan,
+                       size_t plan_len)
 {
-    uint64_t plain = kob_check(cluster, cluster_len, plan, plan_len);
+    uint64_t plain = kob_check(reserve, cluster, cluster_len, plan, plan_len);
     int same = 1;
     for (int sides = 0; sides < 4; sides++) {
         const uint8_t *c = lend(&cluster_fence, sides & 1 ? BACK : FRONT, cluster, cluster_len);
         const uint8_t *p = lend(&plan_fence, sides & 2 ? BACK : FRONT, plan, plan_len);
-        same = same && kobdrieft_check(c, cluster_len, p, plan_len) == plain;
+        same = same && kobdrieft_check(reserve, c, cluster_len, p, plan_len) == plain;
     }
     return same;
 }
 
 /* The same of `kobdrieft_build` into so many bytes; these, and those around them, are looked at too. */
-static int build_stays(const uint8_t *cluster, size_t cluster_len, size_t out_len)
+static int build_stays(uint64_t reserve, const uint8_t *cluster, size_t cluster_len, size_t out_len)
 {
     uint8_t *plain = filled(out_len + 1);
-    uint64_t result = kob_build(cluster, cluster_len, plain, out_len);
+    uint64_t result = kob_build(reserve, cluster, cluster_len, plain, out_len);
     int same = plain[out_len] == FILL;
     for (int sides = 0; sides < 4; sides++) {
         const uint8_t *c = lend(&cluster_fence, sides & 1 ? BACK : FRONT, cluster, cluster_len);
         uint8_t *out = at(&plan_fence, sides & 2 ? BACK : FRONT, out_len);
         memset(plan_fence.front, FILL, plan_fence.size);
-        same = same && kobdrieft_build(c, cluster_len, out, out_len) == result;
+        same = same && kobdrieft_build(reserve, c, cluster_len, out, out_len) == result;
         same = same && memcmp(out, plain, out_len) == 0;
         size_t before = (size_t)(out - plan_fence.front);
         same = same && all_are(plan_fence.front, before, FILL);
@@ -448,23 +400,40 @@ static int build_stays(const uint8_t *cluster, size_t cluster_len, size_t out_le
 static void test_cut(void)
 {
     for (size_t len = 0; len <= sizeof cluster_a; len++) {
-        expect(check_stays(cluster_a, len, plan_a, sizeof plan_a), "check of A, cut");
-        expect(build_stays(cluster_a, len, KOB_BUILD_BUFFER), "build of A, cut");
+        expect(check_stays(0, cluster_a, len, plan_a, sizeof plan_a), "check of A, cut");
+        expect(build_stays(0, cluster_a, len, KOB_BUILD_BUFFER), "build of A, cut");
     }
     for (size_t len = 0; len <= sizeof plan_a; len++)
-        expect(check_stays(cluster_a, sizeof cluster_a, plan_a, len), "check of A's plan, cut");
+        expect(check_stays(0, cluster_a, sizeof cluster_a, plan_a, len), "check of A's plan, cut");
     for (size_t len = 0; len <= sizeof plain_a; len++)
-        expect(check_stays(cluster_a, sizeof cluster_a, plain_a, len), "check of A's plan in version 1, cut");
+        expect(check_stays(0, cluster_a, sizeof cluster_a, plain_a, len), "check of A's plan in version 1, cut");
     for (size_t len = 0; len <= KOB_BUILD_BUFFER + 1; len += len < KOB_BUILD_BUFFER - 11 ? 17 : 1)
-        expect(build_stays(cluster_a, sizeof cluster_a, len), "build of A into a buffer of any length");
+        expect(build_stays(0, cluster_a, sizeof cluster_a, len), "build of A into a buffer of any length");
     uint8_t cluster[sizeof cluster_a];
     turnover(cluster);
     for (size_t len = 0; len <= sizeof cluster; len++) {
-        expect(check_stays(cluster, len, turnover_plan, sizeof turnover_plan), "check in version 2, cut");
-        expect(build_stays(cluster, len, KOB_BUILD_BUFFER), "build in version 2, cut");
+        expect(check_stays(0, cluster, len, turnover_plan, sizeof turnover_plan), "check in version 2, cut");
+        expect(build_stays(0, cluster, len, KOB_BUILD_BUFFER), "build in version 2, cut");
     }
     for (size_t len = 0; len <= sizeof turnover_plan; len++)
-        expect(check_stays(cluster, sizeof cluster, turnover_plan, len), "check of its plan, cut");
+        expect(check_stays(0, cluster, sizeof cluster, turnover_plan, len), "check of its plan, cut");
+}
+
+/* The same at reserves, too high ones among them. */
+static void test_cut_kept(void)
+{
+    for (size_t i = 0; i < RESERVES; i++) {
+        int good = 1;
+        for (size_t len = 0; len <= sizeof cluster_a; len++) {
+            good = check_stays(reserves[i], cluster_a, len, plan_a, sizeof plan_a) && good;
+            good = build_stays(reserves[i], cluster_a, len, KOB_BUILD_BUFFER) && good;
+        }
+        for (size_t len = 0; len <= sizeof plan_a; len++)
+            good = check_stays(reserves[i], cluster_a, sizeof cluster_a, plan_a, len) && good;
+        for (size_t len = 0; len <= KOB_BUILD_BUFFER; len += 183)
+            good = build_stays(reserves[i], cluster_a, sizeof cluster_a, len) && good;
+        expect(good, "A at a reserve, cut");
+    }
 }
 
 /* The largest records there are. */
@@ -477,34 +446,35 @@ static void test_large(void)
     chains(&long_room);
     expect(room.len == 52043, "the full room's length");
     expect(plan.len == KOB_MAX_PLAN_BYTES && plain.len == 3079, "the full plans' lengths");
-    expect(kob_check(room.bytes, room.len, plan.bytes, plan.len) == FULL_PLAN_COST, "the full plan's cost");
-    expect(kob_check(room.bytes, room.len, plain.bytes, plain.len) == FULL_PLAN_COST, "in version 1");
-    expect(check_stays(room.bytes, room.len, plan.bytes, plan.len), "check of the full plan");
-    expect(check_stays(room.bytes, room.len, plain.bytes, plain.len), "check of the full plan in version 1");
-    expect(build_stays(room.bytes, room.len, KOB_BUILD_BUFFER), "build of the full room");
-    expect(build_stays(long_room.bytes, long_room.len, KOB_BUILD_BUFFER), "build of the chains");
+    expect(kob_check(0, room.bytes, room.len, plan.bytes, plan.len) == FULL_PLAN_COST, "the full plan's cost");
+    expect(kob_check(0, room.bytes, room.len, plain.bytes, plain.len) == FULL_PLAN_COST, "in version 1");
+    expect(check_stays(0, room.bytes, room.len, plan.bytes, plan.len), "check of the full plan");
+    expect(check_stays(0, room.bytes, room.len, plain.bytes, plain.len), "check of the full plan in version 1");
+    expect(build_stays(0, room.bytes, room.len, KOB_BUILD_BUFFER), "build of the full room");
+    expect(build_stays(0, long_room.bytes, long_room.len, KOB_BUILD_BUFFER), "build of the chains");
     for (size_t len = 1; len < room.len; len += 1009)
-        expect(build_stays(room.bytes, len, KOB_BUILD_BUFFER), "build of the full room, cut");
+        expect(build_stays(0, room.bytes, len, KOB_BUILD_BUFFER), "build of the full room, cut");
     memcpy(over.bytes, "\1\0\1\0\0", 5);
-    expect(kob_check(over.bytes, 65536, plan.bytes, plan.len) == refused(3, 0), "65,536 bytes give 3");
-    expect(build_stays(over.bytes, 65536, KOB_BUILD_BUFFER), "build of 65,536 bytes");
+    expect(kob_check(0, over.bytes, 65536, plan.bytes, plan.len) == refused(3, 0), "65,536 bytes give 3");
+    expect(build_stays(0, over.bytes, 65536, KOB_BUILD_BUFFER), "build of 65,536 bytes");
 }
 
-/* A and its plan with bytes changed, the stated lengths among them. */
+/* A and its plan with bytes changed, the stated lengths among them, at reserves of 0 to 100. */
 static void test_damaged(void)
 {
     int check_good = 1, build_good = 1;
     for (int i = 0; i < 5000; i++) {
         uint8_t cluster[sizeof cluster_a], plan[sizeof plan_a];
+        const uint64_t reserve = (uint64_t)i % 101;
         memcpy(cluster, cluster_a, sizeof cluster);
         memcpy(plan, plan_a, sizeof plan);
         damage(plan, sizeof plan);
-        check_good = check_good && check_stays(cluster_a, sizeof cluster, plan, sizeof plan);
+        check_good = check_good && check_stays(reserve, cluster_a, sizeof cluster, plan, sizeof plan);
         if (i % 2 == 1)
             turnover(cluster);
         damage(cluster, sizeof cluster);
-        check_good = check_good && check_stays(cluster, sizeof cluster, plan_a, sizeof plan);
-        build_good = build_good && build_stays(cluster, sizeof cluster, KOB_BUILD_BUFFER);
+        check_good = check_good && check_stays(reserve, cluster, sizeof cluster, plan_a, sizeof plan);
+        build_good = build_good && build_stays(reserve, cluster, sizeof cluster, KOB_BUILD_BUFFER);
     }
     expect(check_good, "check of 10,000 damaged records");
     expect(build_good, "build of 5,000 damaged records");
@@ -520,10 +490,10 @@ static void test_damaged_room(void)
         full_plan(&plan, 1 + i % 2);
         memcpy(bad.bytes, room.bytes, room.len);
         damage(bad.bytes + 5, room.len - 5);
-        good = good && build_stays(bad.bytes, room.len, KOB_BUILD_BUFFER);
+        good = good && build_stays(i % 101, bad.bytes, room.len, KOB_BUILD_BUFFER);
         memcpy(bad.bytes, plan.bytes, plan.len);
         damage(bad.bytes + 5, plan.len - 5);
-        good = good && check_stays(room.bytes, room.len, bad.bytes, plan.len);
+        good = good && check_stays(i % 101, room.bytes, room.len, bad.bytes, plan.len);
     }
     expect(good, "300 damaged full rooms and plans");
 }
@@ -533,6 +503,7 @@ static void test_pages(void)
     cluster_fence = fence(KOB_MAX_CLUSTER_BYTES + 1);
     plan_fence = fence(KOB_MAX_PLAN_BYTES);
     test_cut();
+    test_cut_kept();
     test_large();
     test_damaged();
     test_damaged_room();

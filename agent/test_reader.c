@@ -71,7 +71,7 @@ static int read_damaged(const struct reading *got)
 /* Whether the library finds no fault of shape in these bytes as a plan. */
 static int library_takes(const uint8_t *bytes, size_t len)
 {
-    unsigned number = kob_refusal_number(kob_check(cluster_a, sizeof cluster_a, bytes, len));
+    unsigned number = kob_refusal_number(kob_check(0, cluster_a, sizeof cluster_a, bytes, len));
     return number < KOB_FAULT_PLAN_SHORT || number > KOB_FAULT_PLAN_SHAPE;
 }
 

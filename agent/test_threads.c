@@ -27,19 +27,19 @@ struct call {
 
 static uint64_t check_full(void)
 {
-    return kob_check(room.bytes, room.len, plan.bytes, plan.len);
+    return kob_check(0, room.bytes, room.len, plan.bytes, plan.len);
 }
 
 static uint64_t build_full(void)
 {
     static uint8_t out[KOB_BUILD_BUFFER];
-    return kob_build(room.bytes, room.len, out, sizeof out);
+    return kob_build(0, room.bytes, room.len, out, sizeof out);
 }
 
 static uint64_t build_long(void)
 {
     static uint8_t out[KOB_BUILD_BUFFER];
-    return kob_build(long_room.bytes, long_room.len, out, sizeof out);
+    return kob_build(0, long_room.bytes, long_room.len, out, sizeof out);
 }
 
 static void *begin(void *argument)
@@ -107,18 +107,27 @@ static void test_stack(void)
 
 struct worker {
     pthread_t thread;
+    uint64_t reserve;
     uint8_t out[KOB_BUILD_BUFFER];
     int right;
 };
 
-/* One round: plan and check A, the chains and the full room. All threads read the same clusters. */
-static int round_right(uint8_t *out)
+/* A at a reserve: its plan up to 25, then 8, above 90 it is 23. */
+static int a_right(uint64_t reserve, uint8_t *out)
 {
-    uint64_t a = kob_build(cluster_a, sizeof cluster_a, out, KOB_BUILD_BUFFER);
-    int right = kob_cost(a) == 16 && memcmp(out, plan_a, sizeof plan_a) == 0;
-    right = right && kob_check(cluster_a, sizeof cluster_a, out, sizeof plan_a) == 16;
-    right = right && kob_build(long_room.bytes, long_room.len, out, KOB_BUILD_BUFFER) == long_result;
-    uint64_t verdict = kob_check(long_room.bytes, long_room.len, out, kob_plan_length(out));
+    uint64_t built = kob_build(reserve, cluster_a, sizeof cluster_a, out, KOB_BUILD_BUFFER);
+    uint64_t verdict = kob_check(reserve, cluster_a, sizeof cluster_a, plan_a, sizeof plan_a);
+    if (reserve > 25)
+        return built == refused(reserve > KOB_MAX_RESERVE ? 23 : 8, 0) && verdict == built;
+    return built == made(KOB_PLAN, 3, 3, 16) && memcmp(out, plan_a, sizeof plan_a) == 0 && verdict == 16;
+}
+
+/* One round: plan and check A, the chains and the full room. All threads read the same clusters. */
+static int round_right(uint64_t reserve, uint8_t *out)
+{
+    int right = a_right(reserve, out);
+    right = right && kob_build(0, long_room.bytes, long_room.len, out, KOB_BUILD_BUFFER) == long_result;
+    uint64_t verdict = kob_check(0, long_room.bytes, long_room.len, out, kob_plan_length(out));
     return right && verdict == kob_cost(long_result) && check_full() == FULL_PLAN_COST;
 }
 
@@ -127,7 +136,7 @@ static void *work(void *argument)
     struct worker *worker = argument;
     worker->right = 1;
     for (int i = 0; i < ROUNDS; i++)
-        worker->right = round_right(worker->out) && worker->right;
+        worker->right = round_right(worker->reserve, worker->out) && worker->right;
     return NULL;
 }
 
@@ -135,6 +144,7 @@ static void test_threads(void)
 {
     static struct worker workers[THREADS];
     for (int i = 0; i < THREADS; i++) {
+        workers[i].reserve = (uint64_t)i * 13; /* 0 to 91 */
         if (pthread_create(&workers[i].thread, NULL, work, &workers[i]) != 0) {
             fprintf(stderr, "cannot start a thread\n");
             exit(1);

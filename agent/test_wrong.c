@@ -22,6 +22,9 @@
 #elif WRONG == 7 /* no outcome that there is */
 #define BUILT ((uint64_t)3 << 62)
 #define CHECKED BUILT
+#elif WRONG == 12 /* a reserve that only the planner refuses */
+#define BUILT ((uint64_t)2 << 62 | 23 << 16)
+#define CHECKED ((uint64_t)2 << 62 | 19 << 16)
 #elif WRONG == 10 /* no record at all, of a plan of no steps */
 #define BUILT ((uint64_t)0)
 #define CHECKED BUILT
@@ -30,9 +33,10 @@
 #define CHECKED BUILT
 #endif
 
-uint64_t kobdrieft_build(const uint8_t *cluster, size_t cluster_len, uint8_t *out, size_t out_len)
+uint64_t kobdrieft_build(uint64_t reserve, const uint8_t *cluster, size_t cluster_len, uint8_t *out,
+                         size_t out_len)
 {
-    (void)cluster, (void)cluster_len, (void)out_len;
+    (void)reserve, (void)cluster, (void)cluster_len, (void)out_len;
     for (int i = 0; i < 7; i++)
         out[i] = 0;
     out[0] = WRONG == 11 ? 1 : 2;
@@ -42,8 +46,9 @@ uint64_t kobdrieft_build(const uint8_t *cluster, size_t cluster_len, uint8_t *ou
     return BUILT;
 }
 
-uint64_t kobdrieft_check(const uint8_t *cluster, size_t cluster_len, const uint8_t *plan, size_t plan_len)
+uint64_t kobdrieft_check(uint64_t reserve, const uint8_t *cluster, size_t cluster_len, const uint8_t *plan,
+                         size_t plan_len)
 {
-    (void)cluster, (void)cluster_len, (void)plan, (void)plan_len;
+    (void)reserve, (void)cluster, (void)cluster_len, (void)plan, (void)plan_len;
     return CHECKED;
 }

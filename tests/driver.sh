@@ -53,6 +53,9 @@ bytes 01 0000000d 0001 0002 00 01 01 00 >both
 : >empty
 bytes 01 00000028 0003 0002 0000 0000040064 0000040064 0000040064 0000030032 00 00 0000020032 01 01 >home
 head -c 6 none >cut
+# cluster A with memory 3 on node 2, of which a reserve of 10 percent leaves 2; with memory 2, of which it leaves 1
+bytes 01 00000028 0003 0002 0000 0000040064 0000040064 0000030064 0000030032 00 01 0000020032 01 00 >tight
+bytes 01 00000028 0003 0002 0000 0000040064 0000040064 0000020064 0000030032 00 01 0000020032 01 00 >narrow
 # VM 0 is to shut down, VM 1 to be launched on the node that it leaves; then the same record with version 1 and version 3 in front
 turnover=(00000028 0003 0002 0000 0000040064 0000040064 0000040064 0000030032 00 ff 0000020032 ff 00)
 bytes 02 "${turnover[@]}" >turnover
@@ -112,6 +115,43 @@ expect 'a shutdown of what is wanted on a node' 2 'refused 15 step 1' 'kobdrieft
 expect 'a shutdown in a cluster of version 1' 2 'refused 15 step 1' 'kobdrieft: *' "$driver" check 'cluster A' at-once
 expect '255 in version 1' 2 'refused 6 step 0' 'kobdrieft: A VM has no memory, or is on*' "$driver" plan turnover-1
 expect 'a cluster of version 3' 2 'refused 2 step 0' "kobdrieft: The cluster record's version is neither 1 nor 2." "$driver" plan turnover-3
+
+# with a share of each node kept free
+other_plan=$'plan steps 3 moves 3 cost 14\n1 1 1 2\n2 0 0 1\n3 1 2 0'
+expect 'a plan with a reserve' 0 "$a_plan" '' "$driver" plan --reserve 25 'cluster A'
+expect 'a plan with reserve 0' 0 "$a_plan" '' "$driver" plan --reserve 0 'cluster A'
+expect 'another plan by a reserve' 0 "$other_plan" '' "$driver" plan --reserve 10 tight
+expect 'not without it' 0 "$a_plan" '' "$driver" plan tight
+expect 'blocked by a reserve' 1 'blocked steps 0 moves 0 cost 0' '' "$driver" plan --reserve 10 narrow
+expect 'a plan without it' 0 "$other_plan" '' "$driver" plan narrow
+expect 'a target over what is usable' 2 'refused 8 step 0' 'kobdrieft: The target puts more memory or CPU on some node than is usable there.' "$driver" plan --reserve 26 'cluster A'
+expect 'the most' 2 'refused 8 step 0' 'kobdrieft: *' "$driver" plan --reserve 90 'cluster A'
+expect 'more than the most' 2 'refused 23 step 0' 'kobdrieft: The reserve is above 90 percent.' "$driver" plan --reserve 91 'cluster A'
+expect 'a reserve of more than 8 bits' 2 'refused 23 step 0' 'kobdrieft: *' "$driver" plan --reserve 256 'cluster A'
+expect 'a reserve of more than 64 bits' 2 'refused 23 step 0' 'kobdrieft: *' "$driver" plan --reserve 18446744073709551626 'cluster A'
+expect 'before all else' 2 'refused 23 step 0' 'kobdrieft: *' "$driver" plan --reserve 91 empty
+expect 'checked with a reserve' 0 'accepted cost 16' '' "$driver" check --reserve 25 'cluster A' 'plan A'
+expect 'checked with too large a one' 2 'refused 8 step 0' 'kobdrieft: *' "$driver" check --reserve 26 'cluster A' 'plan A'
+expect 'a move over what is usable' 2 'refused 17 step 1' 'kobdrieft: In some order*' "$driver" check --reserve 10 tight 'plan A'
+expect 'accepted without it' 0 'accepted cost 16' '' "$driver" check tight 'plan A'
+expect 'checked with more than the most' 2 'refused 23 step 0' 'kobdrieft: The reserve is above 90 percent.' "$driver" check --reserve 91 empty empty
+expect 'a plan with a reserve, written' 0 "$a_plan" '' "$driver" plan --reserve 25 'cluster A' ../out
+expect 'the same record' 0 '' '' cmp 'plan A' ../out
+expect 'a page with a reserve' 0 '' '' "$driver" draw --reserve 10 tight 'plan A' ../page.html
+expect 'no reserve' 3 '' 'kobdrieft: --reserve takes a percent*usage:*' "$driver" plan --reserve
+expect 'a reserve that is no number' 3 '' 'plan_at: the reserve is not a number in digits: ten' "$driver" plan --reserve ten 'cluster A'
+expect 'a reserve with a sign' 3 '' 'verdict: the reserve is not a number in digits: -1' "$driver" check --reserve -1 'cluster A' 'plan A'
+expect 'an empty reserve' 3 '' 'verdict: the reserve is not a number in digits: ' "$driver" check --reserve '' 'cluster A' 'plan A'
+expect 'a reserve and no file' 3 '' 'kobdrieft: plan takes a cluster record*' "$driver" plan --reserve 10
+expect 'a reserve in one word' 3 '' 'kobdrieft: plan does not take --reserve=10*usage:*' "$driver" plan --reserve=10 'cluster A'
+expect 'a reserve behind the file' 3 '' 'kobdrieft: plan does not take --reserve=10*' "$driver" plan 'cluster A' --reserve=10
+expect 'another option' 3 '' 'kobdrieft: check does not take --reserves*' "$driver" check --reserves 'cluster A'
+expect 'two reserves' 3 '' 'kobdrieft: check does not take --reserve*' "$driver" check --reserve 10 --reserve 10 'cluster A' 'plan A'
+expect 'a page with more than the most' 2 '' 'room: *refused with number 23*' "$driver" draw --reserve 91 'cluster A' 'plan A' ../page-23.html
+expect 'is not drawn' 1 '' '' test -e ../page-23.html
+expect 'a reserve for the cost' 3 '' 'kobdrieft: cost takes *' "$driver" cost --reserve 10 'cluster A' 'plan A'
+long_digits=$(printf %05000d 5)
+expect 'a reserve of 5,000 digits' 3 '' 'plan_at: the reserve is not a number in digits: ' "$driver" plan --reserve "$long_digits" 'cluster A'
 
 # the plan record
 written() { "$driver" plan "$1" "$2" && od -An -v -tx1 "$2" | tr -d ' \n'; }
@@ -185,7 +225,7 @@ expect 'through a link of a link' 0 'accepted cost 16' '' ../links/'of a link' c
 
 # wrong use
 expect 'help' 0 "$("$driver" --help)" '' "$driver" help
-expect 'no command' 3 '' 'usage: kobdrieft plan CLUSTER *' "$driver"
+expect 'no command' 3 '' 'usage: kobdrieft plan *' "$driver"
 expect 'another command' 3 '' 'kobdrieft: no such command: plans*usage:*' "$driver" plans
 expect 'plan of nothing' 3 '' 'kobdrieft: plan takes a cluster record*usage:*' "$driver" plan
 expect 'plan of three' 3 '' 'kobdrieft: plan takes a cluster record*' "$driver" plan 'cluster A' 'plan A' more
@@ -203,7 +243,10 @@ expect 'check: a folder as plan' 3 '' 'kobdrieft: a directory, not a file: folde
 expect 'check: no such plan' 3 '' 'kobdrieft: no such file: plant.plan' "$driver" check home plant.plan
 # shellcheck disable=SC2016
 expect 'nowhere to print' 3 '' '*kobdrieft: cannot write to standard output' bash -c '"$0" plan "cluster A" >/dev/full' "$driver"
-expect 'the program: no arguments' 0 '' 'verdict: it takes a cluster file and a plan file' "$root/target/bin/verdict"
+expect 'the program: no arguments' 0 '' 'verdict: it takes a cluster file and a plan file, and a reserve if one is kept' "$root/target/bin/verdict"
+expect 'the program: four arguments' 0 '' 'verdict: it takes *' "$root/target/bin/verdict" 'cluster A' 'plan A' 10 20
+expect 'the program: a reserve' 0 'accepted cost 16' '' "$root/target/bin/verdict" 'cluster A' 'plan A' 25
+expect 'the planning program: no reserve' 0 '' 'plan_at: it takes a reserve, *' "$root/target/bin/plan_at"
 expect 'the program: no such file' 0 '' 'verdict: cannot read plant: No such file or directory' "$root/target/bin/verdict" 'cluster A' plant
 expect 'the program: a folder' 0 '' 'verdict: cannot read folder: Is a directory' "$root/target/bin/verdict" folder 'plan A'
 expect 'the program: a folder as plan' 0 '' 'verdict: cannot read folder: Is a directory' "$root/target/bin/verdict" home folder
@@ -217,7 +260,7 @@ mkdir -p "$small/crates/plan" "$small/model/harness" "$small/agent" "$room/tools
 cp "$driver" "$small/kobdrieft"
 : >"$small/crates.txt"
 : >"$small/crates/plan/source"
-for tool in awk bash cat chmod date dirname env find flock head mkdir readlink rm sleep tail touch; do
+for tool in awk bash cat chmod cp date dirname env find flock head mkdir readlink rm sleep tail touch; do
   ln -s "$(command -v "$tool")" "$room/tools/$tool"
 done
 cat >"$room/kit/rt" <<'EOF'
@@ -231,7 +274,9 @@ if [ "$1" = check ]; then
   printf '#!/usr/bin/env bash\ncat\n' >target/bin/plan
   printf '#!/usr/bin/env bash\ncat "$1"; exit "${ENDS:-0}"\n' >target/bin/verdict
   chmod +x target/bin/plan target/bin/verdict
+  cp target/bin/plan target/bin/plan_at
   : >target/stamp/plan
+  : >target/stamp/plan_at
   : >target/stamp/verdict
 else
   : >"target/staticlib/lib$2.a"
@@ -258,11 +303,11 @@ expect 'no cargo' 4 '' "kobdrieft: 'cargo' is not on the PATH: *" bare bench
 expect 'a file is looked at before a build' 3 '' 'kobdrieft: no such file: nothing' kit plan nothing
 expect 'nothing was built' 0 '' '' calls
 : >"$CALLS.break"
-expect 'a failed build' 4 '' '*about 3 minutes, once*rules NOT PROVED*kobdrieft: failed: rt check plan verdict; the whole log is *' kit plan said
+expect 'a failed build' 4 '' '*about 3 minutes, once*rules NOT PROVED*kobdrieft: failed: rt check plan plan_at verdict; the whole log is *' kit plan said
 rm -f "$CALLS.break" "$CALLS"
 expect 'first use' 0 'plan steps 0' "kobdrieft: proving and building the planner and the checker, about 3 minutes, once (log: $small/target/kobdrieft.log)" kit plan said
-expect 'one build' 0 'rt check plan verdict' '' calls
-expect 'the log has it' 0 'rt check plan verdict' '' cat "$small/target/kobdrieft.log"
+expect 'one build' 0 'rt check plan plan_at verdict' '' calls
+expect 'the log has it' 0 'rt check plan plan_at verdict' '' cat "$small/target/kobdrieft.log"
 expect 'second use' 0 'plan steps 0' '' kit plan said
 expect 'without the kit once built' 0 'plan steps 0' '' bare plan said
 expect 'no second build' 0 '' '' calls
@@ -272,11 +317,11 @@ rm "$small/target/stamp/plan"
 expect 'a program not seen to run' 0 'plan steps 0' '*proving and building*' kit plan said
 rm "$small/target/bin/verdict"
 expect 'a program missing' 0 'plan steps 0' '*proving and building*' kit check said said
-expect 'three builds' 0 "$(printf 'rt check plan verdict\n%.0s' 1 2 3)" '' calls
+expect 'three builds' 0 "$(printf 'rt check plan plan_at verdict\n%.0s' 1 2 3)" '' calls
 rm -r "$small/target"
 : >"$CALLS.slow"
 expect 'two first uses at once' 0 $'plan steps 0\nplan steps 0' '*another build is under way; waiting for it*' both_at_once
-expect 'one of them builds' 0 'rt check plan verdict' '' calls
+expect 'one of them builds' 0 'rt check plan plan_at verdict' '' calls
 rm "$CALLS.slow"
 expect 'a program that breaks off' 4 '' 'kobdrieft: * ended with status 4' env ENDS=4 PATH="$room/tools" "$small/kobdrieft" check said said
 expect 'a program with no answer' 3 '' '' bare check empty said

@@ -1,5 +1,6 @@
 #!/usr/bin/env bash
-# Every example through the proved programs: what they print is what examples/ has. The last line is 'examples: N passed, M failed'.
+# Every example through the proved programs: what they print is what examples/ has. NAME.reserve-R stands for NAME at reserve R. The last
+# line is 'examples: N passed, M failed'.
 set -u
 cd "$(dirname "$0")/.."
 passed=0
@@ -17,13 +18,26 @@ compare() {
   fi
 }
 
+# The records of what a file says, and the reserve, if it is for one.
+of() { # FILE
+  name=$(basename "$1")
+  name=${name%.*}
+  reserve=()
+  case $name in
+  *.reserve-*)
+    reserve=(--reserve "${name##*.reserve-}")
+    name=${name%.reserve-*}
+    ;;
+  esac
+}
+
 for expected in examples/*.expected; do
-  name=$(basename "$expected" .expected)
-  compare "$name" "$expected" ./kobdrieft plan "examples/$name.cluster"
+  of "$expected"
+  compare "$name" "$expected" ./kobdrieft plan "${reserve[@]}" "examples/$name.cluster"
 done
 for expected in examples/*.verdict; do
-  name=$(basename "$expected" .verdict)
-  compare "$name" "$expected" ./kobdrieft check "examples/$name.cluster" "examples/$name.plan"
+  of "$expected"
+  compare "$name" "$expected" ./kobdrieft check "${reserve[@]}" "examples/$name.cluster" "examples/$name.plan"
 done
 echo "examples: $passed passed, $failed failed"
 [ "$failed" -eq 0 ] && [ "$passed" -gt 0 ]

@@ -1,5 +1,5 @@
-//! Links the library under test, libkobdrieft.a, which exports `kobdrieft_check` and
-//! `kobdrieft_build`.
+//! Links the library under test, libkobdrieft.a, which exports `kobdrieft_check_v6` and
+//! `kobdrieft_build_v6`.
 //!
 //! KOBDRIEFT_LIB_DIR is the directory it is in.
 

@@ -1,6 +1,8 @@
 //! Inputs set by hand on both sides of every limit, each with the outcome that document 01, as
 //! amended, gives it.
 
+mod reserves;
+
 use crate::planner::BUFFER;
 use crate::records::{
     cluster_bytes, cluster_bytes_with, plan_bytes, state_length, Constraint, Move, Node, Plan,
@@ -8,11 +10,14 @@ use crate::records::{
 };
 use crate::sources::{bare, named};
 
+pub use reserves::{a_with, over_usable};
+
 /// One input with its expected outcome. `check` is `None` for accepted, else number and step;
 /// `build` is `None` for plan or blocked, else the number.
 #[derive(Clone, Debug)]
 pub struct Edge {
     pub name: String,
+    pub reserve: u64,
     pub cluster: Vec<u8>,
     pub plan: Vec<u8>,
     pub buffer: usize,
@@ -95,6 +100,7 @@ impl Edges {
         let refusal = (number != 0).then_some(number);
         self.0.push(Edge {
             name: name.to_string(),
+            reserve: 0,
             cluster,
             plan: header(Version::One),
             buffer: BUFFER,
@@ -121,7 +127,7 @@ impl Edges {
     fn plan(&mut self, name: &str, room: &Room, plan: Vec<u8>, check: Option<(u8, u16)>) {
         let cluster = cluster_bytes(room);
         let name = name.to_string();
-        self.0.push(Edge { name, cluster, plan, buffer: BUFFER, check, build: None });
+        self.0.push(Edge { name, reserve: 0, cluster, plan, buffer: BUFFER, check, build: None });
     }
 
     /// A cluster's bytes beside no plan bytes, and beside the header of a plan of no steps in each
@@ -132,6 +138,7 @@ impl Edges {
         let mut add = |kind: &str, plan: &[u8], number: u8| {
             self.0.push(Edge {
                 name: format!("{name}, {kind}"),
+                reserve: 0,
                 cluster: cluster.to_vec(),
                 plan: plan.to_vec(),
                 buffer: BUFFER,
@@ -215,6 +222,10 @@ pub fn edges() -> Vec<Edge> {
     ends_on_no_node(&mut edges);
     launches_and_shutdowns_planned(&mut edges);
     idle_planned(&mut edges);
+    reserves::usable(&mut edges);
+    reserves::over(&mut edges);
+    reserves::planned(&mut edges);
+    reserves::too_high(&mut edges);
     edges.0
 }
 
@@ -490,6 +501,7 @@ fn latency_shapes(e: &mut Edges) {
     let wide = room(&vec![node(1, 1); 64], &[vm(1, 1, 0, 63)], &[latency]);
     e.0.push(Edge {
         name: "64 groups of one node".to_string(),
+        reserve: 0,
         cluster: cluster_bytes(&wide),
         plan: plan_bytes(&named(&wide, &steps(&[&[(0, 63)]]))),
         buffer: BUFFER,
@@ -571,7 +583,8 @@ fn target_constraints(e: &mut Edges) {
     let banned = cluster_bytes(&with(&[ban(&[0], &[0])]));
     let mut edge = |name: &str, plan: Vec<u8>, buffer| {
         let (name, cluster) = (name.to_string(), banned.clone());
-        e.0.push(Edge { name, cluster, plan, buffer, check: Some((9, 0)), build: Some(9) });
+        let (check, build) = (Some((9, 0)), Some(9));
+        e.0.push(Edge { name, reserve: 0, cluster, plan, buffer, check, build });
     };
     edge("9 before 10", header(Version::One), 0);
     edge("9 before 11", header(Version::One)[..6].to_vec(), BUFFER);
@@ -651,6 +664,7 @@ fn buffers(e: &mut Edges) {
     for (buffer, build) in too_short.into_iter().chain(enough) {
         e.0.push(Edge {
             name: format!("buffer {buffer}"),
+            reserve: 0,
             cluster: cluster_bytes(&at_home()),
             plan: header(Version::Two),
             buffer,

@@ -14,6 +14,7 @@ pub mod planner;
 pub mod puzzles;
 pub mod reasons;
 pub mod records;
+pub mod reserves;
 pub mod rules;
 pub mod sources;
 pub mod text;

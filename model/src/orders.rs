@@ -1,6 +1,7 @@
 //! What a step means, by brute force: every order of begins and ends is gone through, and each
 //! begin is tested as it happens. Sums and mates are worked out here afresh from the rows and the
-//! spread lists; nothing of the closed forms in `rules` is used.
+//! spread lists; nothing of the closed forms in `rules` is used. At a reserve the room is to be given
+//! with its usable amounts.
 
 use crate::records::{on_a_node, Constraint, Move, Node, Room};
 use std::collections::HashSet;

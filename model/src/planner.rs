@@ -15,10 +15,10 @@ pub enum Answer {
 /// The buffer that any plan the planner makes fits in: a header, and 511 steps of one move.
 pub const BUFFER: usize = 2_562;
 
-/// Builds a plan for a cluster and writes its record, of version 2, at the front of `out`. Bytes
-/// behind the record stay; a refusal changes nothing.
-pub fn build(cluster: &[u8], out: &mut [u8]) -> Answer {
-    let room = match accepted_cluster(cluster) {
+/// Builds a plan for a cluster at a reserve and writes its record, of version 2, at the front of
+/// `out`. Bytes behind the record stay; a refusal changes nothing.
+pub fn build(reserve: u64, cluster: &[u8], out: &mut [u8]) -> Answer {
+    let room = match accepted_cluster(reserve, cluster) {
         Ok(room) => room,
         Err(number) => return Answer::Refused { number, step: 0 },
     };

@@ -1,14 +1,33 @@
-//! The rules: where VMs are, what nodes hold, what the target and each step may not do, what a
-//! plan costs, and the checker that puts all of this together.
+//! The rules: what a reserve leaves of each node, where VMs are, what nodes hold, what the target and
+//! each step may not do, what a plan costs, and the checker that puts all of this together.
 
 use crate::records::{on_a_node, parse_cluster, parse_plan};
-use crate::records::{Constraint, Move, Room, Step, Vm, NOWHERE};
+use crate::records::{Constraint, Move, Node, Room, Step, Vm, NOWHERE};
 
 /// What the checker says.
 #[derive(Clone, Copy, Debug, PartialEq, Eq)]
 pub enum Verdict {
     Accepted { cost: u64 },
     Refused { number: u8, step: u16 },
+}
+
+// ---------------------------------------------------------------- the reserve
+
+/// The highest reserve, in percent, that is taken.
+pub const MOST_RESERVE: u64 = 90;
+
+/// Fault 23: a reserve that is too high. It is tested before everything else.
+pub fn reserve_fault(reserve: u64) -> Option<u8> {
+    (reserve > MOST_RESERVE).then_some(23)
+}
+
+/// A room as the rules see it at a reserve that is taken: what a node has is its usable memory and
+/// CPU, each rounded down, and all else is as it was. Whatever is said below of what a node has, of
+/// its capacity or of being over it, is said of these.
+pub fn usable_room(reserve: u64, room: &Room) -> Room {
+    let usable = |capacity: u64| capacity * (100 - reserve) / 100;
+    let node = |node: &Node| Node { memory: usable(node.memory), cpu: usable(node.cpu) };
+    Room { nodes: room.nodes.iter().map(node).collect(), ..room.clone() }
 }
 
 // ---------------------------------------------------------------- placements and sums
@@ -197,9 +216,13 @@ pub fn target_fault(room: &Room) -> Option<u8> {
     None
 }
 
-/// Reads a cluster record and tests its target: faults 1 to 9.
-pub fn accepted_cluster(bytes: &[u8]) -> Result<Room, u8> {
-    let room = parse_cluster(bytes)?;
+/// Tests the reserve, reads a cluster record and tests its target: faults 23 and 1 to 9. The room has
+/// its usable amounts.
+pub fn accepted_cluster(reserve: u64, bytes: &[u8]) -> Result<Room, u8> {
+    if let Some(number) = reserve_fault(reserve) {
+        return Err(number);
+    }
+    let room = usable_room(reserve, &parse_cluster(bytes)?);
     match target_fault(&room) {
         Some(number) => Err(number),
         None => Ok(room),
@@ -298,10 +321,11 @@ pub fn plan_cost(room: &Room, steps: &[Step]) -> u64 {
 
 // ---------------------------------------------------------------- the checker
 
-/// Checks a plan for a cluster: 1 to 9, then 11 to 14 over the whole plan, then each step in
-/// turn by 15, 27, 16, 17 and 18, then 19. A plan of 0 bytes has no steps: 1 to 9, then 19.
-pub fn check(cluster: &[u8], plan: &[u8]) -> Verdict {
-    let room = match accepted_cluster(cluster) {
+/// Checks a plan for a cluster at a reserve: 23, 1 to 9, then 11 to 14 over the whole plan, then each
+/// step in turn by 15, 27, 16, 17 and 18, then 19. A plan of 0 bytes has no steps: 23, 1 to 9, then
+/// 19.
+pub fn check(reserve: u64, cluster: &[u8], plan: &[u8]) -> Verdict {
+    let room = match accepted_cluster(reserve, cluster) {
         Ok(room) => room,
         Err(number) => return Verdict::Refused { number, step: 0 },
     };

@@ -8,8 +8,13 @@ use kobdrieft_model::*;
 
 /// Builds into a buffer of the case's length; a refusal must leave every byte.
 fn built(cluster: &[u8], buffer: usize) -> Answer {
+    built_at(0, cluster, buffer)
+}
+
+/// The same at a reserve.
+fn built_at(reserve: u64, cluster: &[u8], buffer: usize) -> Answer {
     let mut out = vec![0x5A; buffer];
-    let answer = build(cluster, &mut out);
+    let answer = build(reserve, cluster, &mut out);
     if let Answer::Refused { .. } = answer {
         assert!(out.iter().all(|&b| b == 0x5A));
     }
@@ -21,12 +26,12 @@ fn hand_set_cases() {
     let list = edges();
     println!("{} hand-set cases", list.len());
     for edge in list {
-        let check = match check(&edge.cluster, &edge.plan) {
+        let check = match check(edge.reserve, &edge.cluster, &edge.plan) {
             Verdict::Accepted { .. } => None,
             Verdict::Refused { number, step } => Some((number, step)),
         };
         assert_eq!(check, edge.check, "check: {}", edge.name);
-        let build = match built(&edge.cluster, edge.buffer) {
+        let build = match built_at(edge.reserve, &edge.cluster, edge.buffer) {
             Answer::Refused { number, step } => {
                 assert_eq!(step, 0);
                 Some(number)
@@ -40,7 +45,7 @@ fn hand_set_cases() {
 #[test]
 fn hand_set_cases_reach_every_number() {
     let list = edges();
-    for number in (1..=9).chain(11..=19).chain([27]) {
+    for number in (1..=9).chain(11..=19).chain([23, 27]) {
         assert!(list.iter().any(|e| e.check.is_some_and(|(n, _)| n == number)), "{number}");
     }
     for version in Version::ALL {
@@ -50,7 +55,7 @@ fn hand_set_cases_reach_every_number() {
             assert!(list.iter().filter(hits).any(|e| of_version(&e)), "{version:?} {number}");
         }
     }
-    for number in 1..=10 {
+    for number in (1..=10).chain([23]) {
         assert!(list.iter().any(|e| e.build == Some(number)), "{number}");
     }
 }
@@ -60,7 +65,7 @@ fn random_cases_reach_everything() {
     let mut checks = [0; 28];
     let mut builds = [0; 12];
     for Case { cluster, plan, buffer, .. } in cases(20, 40_000) {
-        match check(&cluster, &plan) {
+        match check(0, &cluster, &plan) {
             Verdict::Accepted { .. } => checks[0] += 1,
             Verdict::Refused { number, step } => {
                 assert_eq!(step > 0, matches!(number, 15..=18 | 27));
@@ -88,7 +93,7 @@ fn random_plans_of_either_version_reach_everything() {
     let mut seen = [[0; 28]; 2];
     for Case { cluster, plan, .. } in cases(23, 20_000) {
         let Some(version) = plan.first().and_then(|&byte| Version::of(byte)) else { continue };
-        let number = match check(&cluster, &plan) {
+        let number = match check(0, &cluster, &plan) {
             Verdict::Accepted { .. } => 0,
             Verdict::Refused { number, .. } => usize::from(number),
         };
@@ -108,7 +113,7 @@ fn random_clusters_of_either_version_reach_everything() {
     let (mut checks, mut builds) = ([[0; 28]; 2], [[0; 12]; 2]);
     for Case { cluster, plan, buffer, .. } in cases(25, 40_000) {
         let Some(version) = cluster.first().and_then(|&byte| Version::of(byte)) else { continue };
-        checks[version as usize - 1][match check(&cluster, &plan) {
+        checks[version as usize - 1][match check(0, &cluster, &plan) {
             Verdict::Accepted { .. } => 0,
             Verdict::Refused { number, .. } => usize::from(number),
         }] += 1;
@@ -133,7 +138,7 @@ fn random_clusters_of_either_version_reach_everything() {
 fn random_launches_and_shutdowns() {
     let (mut launches, mut shutdowns) = ([0; 28], [0; 28]);
     for Case { cluster, plan, .. } in cases(26, 40_000) {
-        let (Ok(room), Ok(plan)) = (accepted_cluster(&cluster), parse_plan(&plan)) else {
+        let (Ok(room), Ok(plan)) = (accepted_cluster(0, &cluster), parse_plan(&plan)) else {
             continue;
         };
         let (number, at) = match rules::check_steps(&room, &plan.steps) {
@@ -162,8 +167,10 @@ fn random_plans_of_every_origin() {
     let mut seen = [[[0; 4]; 2]; Origin::ALL.len()];
     for Case { cluster, plan, origin, .. } in cases(24, 30_000) {
         let Ok(Plan { version, steps }) = parse_plan(&plan) else { continue };
-        let (Some(origin), true) = (origin, accepted_cluster(&cluster).is_ok()) else { continue };
-        let outcome = match check(&cluster, &plan) {
+        let (Some(origin), true) = (origin, accepted_cluster(0, &cluster).is_ok()) else {
+            continue;
+        };
+        let outcome = match check(0, &cluster, &plan) {
             Verdict::Accepted { .. } => 0,
             Verdict::Refused { number: 15, .. } => 1,
             Verdict::Refused { number: 27, .. } => 2,
@@ -189,7 +196,7 @@ fn random_plans_of_no_bytes_and_of_too_few() {
     let mut no_bytes = [0; 20];
     let mut too_few = [0; 7];
     for Case { cluster, plan, .. } in cases(22, 40_000) {
-        match check(&cluster, &plan) {
+        match check(0, &cluster, &plan) {
             Verdict::Accepted { cost } if plan.is_empty() => {
                 assert_eq!(cost, 0);
                 no_bytes[0] += 1;
@@ -198,7 +205,7 @@ fn random_plans_of_no_bytes_and_of_too_few() {
                 no_bytes[usize::from(number)] += 1;
             }
             Verdict::Refused { number: 11, .. } => too_few[plan.len()] += 1,
-            _ => assert!(plan.len() >= 7 || accepted_cluster(&cluster).is_err()),
+            _ => assert!(plan.len() >= 7 || accepted_cluster(0, &cluster).is_err()),
         }
     }
     println!("no bytes, accepted then by number: {no_bytes:?}");

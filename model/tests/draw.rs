@@ -1,14 +1,18 @@
 //! The drawn page: well formed, whole in itself, a frame for the start, each step and the end; in
 //! each frame the VMs that it must show, named where nothing else is written; what refuses a step
-//! is marked, and whose verdict it is is said.
+//! is marked, whose verdict it is is said, and what a reserve keeps is shown.
 
+mod common;
+
+use common::has;
 use kobdrieft_model::draw::{page, Whose};
 use kobdrieft_model::edges::{cluster_a, node, room as made, room_2, sourced, steps, vm};
 use kobdrieft_model::gen::{apart, knot, plan, room, swaps, Rng, Size};
 use kobdrieft_model::orders::{Phase, Run};
 use kobdrieft_model::planner::make_steps;
 use kobdrieft_model::reasons::reason;
-use kobdrieft_model::rules::Placement;
+use kobdrieft_model::reserves::{on_the_edge, some_reserve};
+use kobdrieft_model::rules::{usable_room, Placement};
 use kobdrieft_model::*;
 use std::collections::BTreeSet;
 
@@ -248,9 +252,14 @@ fn drawn(room: &Room, steps: &[Step]) -> String {
 
 /// Draws a plan that can be drawn and looks at every frame.
 fn plan_drawn(room: &Room, plan: &Plan) -> String {
-    let page = page(room, plan, Whose::Model).expect("a plan that fits");
+    plan_drawn_at(0, room, plan)
+}
+
+/// The same at a reserve.
+fn plan_drawn_at(reserve: u64, room: &Room, plan: &Plan) -> String {
+    let page = page(reserve, room, plan, Whose::Model).expect("a plan that fits");
     well_formed(&page);
-    let (steps, at) = (&plan.steps, refused_at(room, plan));
+    let (steps, at) = (&plan.steps, refused_at(reserve, room, plan));
     let shown = at.unwrap_or(steps.len());
     let brief = page.contains("shows the nodes that the step touches");
     let frames = frames(&page);
@@ -277,16 +286,10 @@ fn plan_drawn(room: &Room, plan: &Plan) -> String {
 }
 
 /// The step at which a plan is refused, if it is at one.
-fn refused_at(room: &Room, plan: &Plan) -> Option<usize> {
-    match check(&cluster_bytes(room), &plan_bytes(plan)) {
+fn refused_at(reserve: u64, room: &Room, plan: &Plan) -> Option<usize> {
+    match check(reserve, &cluster_bytes(room), &plan_bytes(plan)) {
         Verdict::Refused { step, .. } if step > 0 => Some(usize::from(step)),
         _ => None,
-    }
-}
-
-fn has(page: &str, all: &[&str]) {
-    for words in all {
-        assert!(page.contains(words), "{words}");
     }
 }
 
@@ -350,7 +353,7 @@ fn large_pages_stay_light() {
     let step = |i| [i % 128, 128 + i % 128].map(|vm| Move::bare(vm, to(i, vm))).to_vec();
     let steps: Vec<Step> = (0..512).map(step).collect();
     assert!(matches!(
-        check(&cluster_bytes(&room), &plan_bytes(&bare(&steps))),
+        check(0, &cluster_bytes(&room), &plan_bytes(&bare(&steps))),
         Verdict::Refused { number: 19, .. }
     ));
     let (page, pairs) = (drawn(&room, &steps), swaps(128));
@@ -635,13 +638,13 @@ fn shutdowns_that_do_not_fit_the_cluster() {
     ];
     for (step, why) in table {
         let plan = bare(&steps(&[step]));
-        let outcome = page(&turn(9, &[]), &plan, Whose::Model);
+        let outcome = page(0, &turn(9, &[]), &plan, Whose::Model);
         assert_eq!(
             outcome,
             Err(format!("this plan is not one for this cluster: in step 1, {why}"))
         );
     }
-    let outcome = page(&cluster_a(), &bare(&steps(&[&[(0, 255)]])), Whose::Model);
+    let outcome = page(0, &cluster_a(), &bare(&steps(&[&[(0, 255)]])), Whose::Model);
     let why = "in step 1, VM 0 is to be shut down, but its target is node 1";
     assert_eq!(outcome, Err(format!("this plan is not one for this cluster: {why}")));
 }
@@ -718,7 +721,7 @@ fn a_target_that_is_refused() {
 #[test]
 fn whose_verdict() {
     let a = cluster_a();
-    let page = page(&a, &named(&a, &make_steps(&a).0), Whose::Checker).unwrap();
+    let page = page(0, &a, &named(&a, &make_steps(&a).0), Whose::Checker).unwrap();
     has(
         &page,
         &["<p class=\"verdict\">Verdict of the proved checker: <b>accepted cost 16</b>.</p>"],
@@ -738,7 +741,7 @@ fn plans_for_another_cluster() {
         let start = "this plan is not one for this cluster: in step 2, ";
         let list = steps(&[&[(0, 2)], step]);
         for plan in [bare(&list), named(&cluster_a(), &list)] {
-            let outcome = page(&cluster_a(), &plan, Whose::Model);
+            let outcome = page(0, &cluster_a(), &plan, Whose::Model);
             assert_eq!(outcome, Err(format!("{start}{why}")));
         }
     }
@@ -777,10 +780,10 @@ fn told_sources(room: &Room, plan: &Plan, step: usize, page: &str) {
 }
 
 /// Follows every order that a page tells of a refused step; gives how many there are.
-fn told_orders(room: &Room, plan: &Plan, page: &str) -> usize {
-    let Some(at) = refused_at(room, plan) else { return 0 };
+fn told_orders(reserve: u64, room: &Room, plan: &Plan, page: &str) -> usize {
+    let Some(at) = refused_at(reserve, room, plan) else { return 0 };
     let (start, step) = (start_of(room, &plan.steps, at), &plan.steps[at - 1]);
-    let run = Run { room, start: &start.place, step };
+    let run = Run { room: &usable_room(reserve, room), start: &start.place, step };
     let mut told = 0;
     for order in parts(page, "An order that fails: begin VM ", ": node ") {
         let vms = order.split(", begin VM ").map(|vm| vm.parse().unwrap());
@@ -809,9 +812,9 @@ fn generated_plans() {
                 let room = make(&mut rng, size);
                 let (mut plan, _) = plan(&mut rng, &room);
                 plan.steps.truncate(40);
-                let verdict = check(&cluster_bytes(&room), &plan_bytes(&plan));
+                let verdict = check(0, &cluster_bytes(&room), &plan_bytes(&plan));
                 if matches!(verdict, Verdict::Refused { number: 15, .. }) {
-                    assert!(page(&room, &plan, Whose::Model).is_err());
+                    assert!(page(0, &room, &plan, Whose::Model).is_err());
                     refusals += 1;
                     continue;
                 }
@@ -821,11 +824,93 @@ fn generated_plans() {
                     told_sources(&room, &plan, usize::from(step), &page);
                     sources += 1;
                 } else {
-                    orders += told_orders(&room, &plan, &page);
+                    orders += told_orders(0, &room, &plan, &page);
                 }
             }
         }
     }
     println!("{pages} pages, {refusals} refused, {orders} orders that fail, {sources} with 27");
     assert!(pages > 500 && refusals > 50 && orders > 50 && sources > 50);
+}
+
+// ---------------------------------------------------------------- reserves
+
+/// What stands under each node of a frame that shows all: what is usable, and what is kept of the rest.
+fn shows_usable(reserve: u64, room: &Room, frame: &str) {
+    let texts = texts(frame);
+    let usable = usable_room(reserve, room);
+    let names = texts.iter().enumerate().filter(|(_, text)| text.class == "name");
+    for ((i, _), (has, whole)) in names.zip(usable.nodes.iter().zip(&room.nodes)) {
+        let [memory, cpu, kept] = [1, 2, 3].map(|more| &texts[i + more]);
+        for (text, has) in [(memory, has.memory), (cpu, has.cpu)] {
+            let (held, limit) = text.words.split_once(" of ").unwrap();
+            let held: u64 = held.split(' ').next_back().unwrap().parse().unwrap();
+            assert_eq!(limit, has.to_string());
+            assert_eq!(text.class, if held > has { "overfull" } else { "within" });
+        }
+        let share = format!("kept {} and {}", whole.memory - has.memory, whole.cpu - has.cpu);
+        assert_eq!((kept.class.as_str(), kept.words.as_str()), ("kept", share.as_str()));
+    }
+}
+
+/// What is kept stands as a grey share on top of its bar.
+fn shows_kept(frame: &str) {
+    let rects = rects(frame);
+    for (i, kept) in rects.iter().enumerate().filter(|(_, rect)| rect.class == "kept") {
+        let bar = &rects[i - 1];
+        assert_eq!(bar.class, "room");
+        assert!((bar.top - kept.bottom).abs() < 0.15 && kept.top < kept.bottom + 0.1);
+        assert!(bar.left == kept.left && bar.right == kept.right);
+    }
+}
+
+#[test]
+fn generated_plans_at_reserves() {
+    let mut rng = Rng::new(42);
+    let (mut pages, mut over, mut targets, mut orders) = (0, 0, 0, 0);
+    let sizes = [(Size::Tiny, 300), (Size::Small, 200), (Size::Medium, 20), (Size::Large, 2)];
+    for (size, how_many) in sizes {
+        for _ in 0..how_many {
+            for make in [room, knot, apart] {
+                let first = make(&mut rng, size);
+                let (mut plan, _) = plan(&mut rng, &first);
+                plan.steps.truncate(40);
+                let reserve = some_reserve(&mut rng);
+                let room = on_the_edge(&mut rng, reserve, &first);
+                if page(reserve, &room, &plan, Whose::Model).is_err() {
+                    continue;
+                }
+                let page = plan_drawn_at(reserve, &room, &plan);
+                has(&page, &[&format!(", reserve {reserve} percent</h1>"), ">usable<"]);
+                frames(&page).iter().for_each(|frame| shows_kept(frame));
+                shows_usable(reserve, &room, frames(&page)[0]);
+                pages += 1;
+                over += usize::from(frames(&page)[0].contains("OVERFULL"));
+                targets += usize::from(page.contains(" usable. The steps are drawn"));
+                orders += told_orders(reserve, &room, &plan, &page);
+                assert_eq!(
+                    page.contains(">no space<"),
+                    page.contains(" usable.</p>") || page.contains(" usable (VM"),
+                );
+            }
+        }
+    }
+    println!("{pages} pages, {over} with a node over, {targets} with 8, {orders} orders that fail");
+    assert!(pages > 500 && over > 50 && targets > 50 && orders > 20);
+}
+
+/// Cluster A at 25 percent: memory 3 of 4 and CPU 75 of 100 are usable, and a whole bar is 170 high.
+#[test]
+fn a_at_a_reserve() {
+    let a = cluster_a();
+    let page = plan_drawn_at(25, &a, &bare(&make_steps(&a).0));
+    let start = frames(&page)[0];
+    let high = |class: &str| -> Vec<f64> {
+        let of_class = rects(start).into_iter().filter(|rect| rect.class == class);
+        of_class.map(|rect| ((rect.bottom - rect.top) * 10.0).round() / 10.0).collect()
+    };
+    assert_eq!(high("room"), [127.5; 6]);
+    assert_eq!(high("kept"), [42.5; 6]);
+    has(start, &[">memory 3 of 3</text>", ">CPU 50 of 75</text>", ">kept 1 and 25</text>"]);
+    assert!(!page.contains("OVERFULL"));
 }

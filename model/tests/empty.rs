@@ -16,11 +16,11 @@ type Seen = [usize; 20];
 /// The one verdict on all three plans. What it must be is worked out here from the cluster alone:
 /// its own refusal, then 19 if some VM is not on its target, else accepted at cost 0.
 fn all_three(seen: &mut Seen, cluster: &[u8]) {
-    let verdict = check(cluster, &[]);
+    let verdict = check(0, cluster, &[]);
     for header in HEADERS {
-        assert_eq!(verdict, check(cluster, &header), "{cluster:02x?}");
+        assert_eq!(verdict, check(0, cluster, &header), "{cluster:02x?}");
     }
-    let number = match accepted_cluster(cluster) {
+    let number = match accepted_cluster(0, cluster) {
         Err(number) => number,
         Ok(room) if room.vms.iter().any(|vm| vm.current != vm.target) => 19,
         Ok(_) => 0,
@@ -146,12 +146,12 @@ fn every_damage_of_one_byte() {
 #[test]
 fn a_without_bytes() {
     let a = cluster_bytes(&cluster_a());
-    assert_eq!(check(&a, &[]), Verdict::Refused { number: 19, step: 0 });
+    assert_eq!(check(0, &a, &[]), Verdict::Refused { number: 19, step: 0 });
     let mut home = cluster_a();
     home.vms.iter_mut().for_each(|vm| vm.current = vm.target);
-    assert_eq!(check(&cluster_bytes(&home), &[]), Verdict::Accepted { cost: 0 });
+    assert_eq!(check(0, &cluster_bytes(&home), &[]), Verdict::Accepted { cost: 0 });
     let none = cluster_bytes(&made(&[node(4, 100)], &[], &[]));
-    assert_eq!(check(&none, &[]), Verdict::Accepted { cost: 0 });
+    assert_eq!(check(0, &none, &[]), Verdict::Accepted { cost: 0 });
 }
 
 #[test]
@@ -185,8 +185,8 @@ fn the_planner_writes_its_header() {
         let room = if i % 2 == 0 { room(&mut rng, Size::Tiny) } else { puzzle(&mut rng) };
         let cluster = cluster_bytes(&room);
         let mut out = [0xAA; BUFFER];
-        let answer = build(&cluster, &mut out);
-        let verdict = check(&cluster, &[]);
+        let answer = build(0, &cluster, &mut out);
+        let verdict = check(0, &cluster, &[]);
         match answer {
             Answer::Plan { steps: 0, moves: 0, cost: 0 } => {
                 assert_eq!(verdict, Verdict::Accepted { cost: 0 });

@@ -1,9 +1,9 @@
 //! The examples: their records are what their texts give, those without a text have none, the
-//! planner and the checker say what stands beside them, and the page names each.
+//! planner and the checker say what stands beside them, at reserves too, and the page names each.
 
 use kobdrieft_model::draw::{page, Whose};
 use kobdrieft_model::form::{read_cluster, read_plan};
-use kobdrieft_model::text::{plan_text, planned, verdict_text};
+use kobdrieft_model::text::{plan_text, planned, read_reserve, verdict_text};
 use kobdrieft_model::*;
 use std::collections::BTreeSet;
 use std::fs;
@@ -33,6 +33,18 @@ fn names(ending: &str) -> BTreeSet<String> {
     files().into_iter().filter(|(_, e)| e == ending).map(|(name, _)| name).collect()
 }
 
+/// What stands beside `NAME` at reserves, as `NAME.reserve-R.ENDING`: the name, the reserve and the
+/// text.
+fn at_reserves(ending: &str) -> Vec<(String, u64, String)> {
+    let read = |(name, rest): (String, String)| {
+        let digits = rest.strip_prefix("reserve-")?.strip_suffix(ending)?.strip_suffix('.')?;
+        let reserve = read_reserve(digits)?;
+        let said = text(&format!("{name}.{rest}"));
+        Some((name, reserve, said))
+    };
+    files().into_iter().filter_map(read).collect()
+}
+
 /// Whether a cluster's record is what some text packs to. A damaged one is not.
 fn cluster_has_text(name: &str) -> bool {
     parse_cluster(&bytes(&format!("{name}.cluster"))).is_ok()
@@ -56,7 +68,12 @@ fn every_example_is_whole() {
     let with_text = names("plan").into_iter().filter(|name| has_text(name));
     assert_eq!(names("steps"), with_text.collect());
     let known = ["room", "cluster", "expected", "steps", "plan", "verdict", "md", "sh"];
-    assert!(files().iter().all(|(_, ending)| known.contains(&ending.as_str())), "{:?}", files());
+    let is_other = |(_, ending): &(String, String)| !known.contains(&ending.as_str());
+    let others: Vec<_> = files().into_iter().filter(is_other).collect();
+    let (planned, checked) = (at_reserves("expected"), at_reserves("verdict"));
+    assert_eq!(planned.len() + checked.len(), others.len(), "{others:?}");
+    assert!(planned.iter().all(|(name, ..)| names("cluster").contains(name)));
+    assert!(checked.iter().all(|(name, ..)| names("plan").contains(name)));
 }
 
 #[test]
@@ -177,7 +194,7 @@ fn the_same_plans_without_sources() {
     for (name, line) in table {
         let plan = parse_plan(&bytes(&format!("{name}.plan"))).unwrap();
         let without = plan_bytes(&bare(&plan.steps));
-        let verdict = check(&bytes(&format!("{name}.cluster")), &without);
+        let verdict = check(0, &bytes(&format!("{name}.cluster")), &without);
         assert_eq!(verdict_text(verdict), line, "{name}");
     }
 }
@@ -186,13 +203,13 @@ fn the_same_plans_without_sources() {
 /// was made for: the same, with VM 0 on node 2.
 #[test]
 fn the_planner_wrote_the_plans_with_sources() {
-    assert_eq!(planned(&bytes("a.cluster")).1, Some(bytes("a-sources.plan")));
+    assert_eq!(planned(0, &bytes("a.cluster")).1, Some(bytes("a-sources.plan")));
     let cluster = bytes("a-swapped.cluster");
     assert_eq!(cluster, bytes("five.cluster"));
     let mut other = parse_cluster(&cluster).unwrap();
     other.vms[0].current = 2;
-    assert_eq!(planned(&cluster_bytes(&other)).1, Some(bytes("a-swapped.plan")));
-    let own = planned(&cluster).1.unwrap();
+    assert_eq!(planned(0, &cluster_bytes(&other)).1, Some(bytes("a-swapped.plan")));
+    let own = planned(0, &cluster).1.unwrap();
     assert_eq!(bare(&parse_plan(&own).unwrap().steps), parse_plan(&bytes("five.plan")).unwrap());
 }
 
@@ -212,16 +229,24 @@ fn plans_without_a_text() {
 #[test]
 fn the_planner_prints_what_is_expected() {
     for name in names("expected") {
-        let printed = plan_text(&bytes(&format!("{name}.cluster")));
+        let printed = plan_text(0, &bytes(&format!("{name}.cluster")));
         assert_eq!(printed, text(&format!("{name}.expected")), "{name}");
+    }
+    for (name, reserve, said) in at_reserves("expected") {
+        let printed = plan_text(reserve, &bytes(&format!("{name}.cluster")));
+        assert_eq!(printed, said, "{name} at {reserve}");
     }
 }
 
 #[test]
 fn the_checker_says_what_is_expected() {
     for name in names("verdict") {
-        let verdict = check(&bytes(&format!("{name}.cluster")), &bytes(&format!("{name}.plan")));
+        let verdict = check(0, &bytes(&format!("{name}.cluster")), &bytes(&format!("{name}.plan")));
         assert_eq!(verdict_text(verdict), text(&format!("{name}.verdict")), "{name}");
+    }
+    for (name, reserve, said) in at_reserves("verdict") {
+        let [cluster, plan] = ["cluster", "plan"].map(|ending| bytes(&format!("{name}.{ending}")));
+        assert_eq!(verdict_text(check(reserve, &cluster, &plan)), said, "{name} at {reserve}");
     }
 }
 
@@ -235,7 +260,14 @@ fn every_plan_that_fits_is_drawn() {
             continue;
         };
         let other = verdict.starts_with("refused 15 ");
-        assert_eq!(page(&room, &plan, Whose::Model).is_err(), other, "{name}");
+        assert_eq!(page(0, &room, &plan, Whose::Model).is_err(), other, "{name}");
+    }
+    for (name, reserve, verdict) in at_reserves("verdict") {
+        let (cluster, plan) = (bytes(&format!("{name}.cluster")), bytes(&format!("{name}.plan")));
+        let (Ok(room), Ok(plan)) = (parse_cluster(&cluster), parse_plan(&plan)) else { continue };
+        let other = ["refused 15 ", "refused 23 "].iter().any(|line| verdict.starts_with(line));
+        let drawn = page(reserve, &room, &plan, Whose::Model);
+        assert_eq!(drawn.is_err(), other, "{name} at {reserve}");
     }
 }
 

@@ -3,7 +3,7 @@
 
 mod common;
 
-use common::{accepted, checked, refused, steps_for, Rows, DOWN};
+use common::{accepted, checked, has, refused, steps_for, Rows, DOWN};
 use kobdrieft_model::draw::{page, Whose};
 use kobdrieft_model::edges::{node, room as made, room_2, steps, vm};
 use kobdrieft_model::gen::{busy, cases, idle_pivots, knot, plan, room, Rng, Size};
@@ -153,8 +153,8 @@ fn a_target_over_its_cpu() {
             let vms = [vm(1, 3, 0, 0), vm(1, 0, current, 0)];
             let room = made(&[node(9, most), node(9, 9)], &vms, &[]);
             let cluster = cluster_bytes(&Room { version, ..room });
-            assert_eq!(check(&cluster, &[]), refused(number, 0), "{current} {most}");
-            let refuses = matches!(build(&cluster, &mut [0; 2_562]), Answer::Refused { .. });
+            assert_eq!(check(0, &cluster, &[]), refused(number, 0), "{current} {most}");
+            let refuses = matches!(build(0, &cluster, &mut [0; 2_562]), Answer::Refused { .. });
             assert_eq!(refuses, number == 8);
         }
     }
@@ -208,7 +208,7 @@ fn an_idle_vm_does_not_wait() {
     assert_eq!(steps_for(&over_cpu(1, 0)), (both, true));
     assert_eq!(steps_for(&over_cpu(1, 1)), (steps(LAST), true));
     assert_eq!(steps_for(&over_cpu(2, 0)), (steps(LAST), true));
-    let text = plan_text(&cluster_bytes(&over_cpu(1, 0)));
+    let text = plan_text(0, &cluster_bytes(&over_cpu(1, 0)));
     assert_eq!(text, "plan steps 1 moves 2 cost 2\n1 0 0 1\n1 2 1 2\n");
 }
 
@@ -538,7 +538,8 @@ fn busy_rooms_planned() {
 fn random_cases_have_idle_vms() {
     let (mut rooms, mut many, mut over, mut entered, mut mixed) = (0, 0, 0, 0, 0);
     for case in cases(96, 20_000) {
-        let (Ok(room), Ok(plan)) = (accepted_cluster(&case.cluster), parse_plan(&case.plan)) else {
+        let (Ok(room), Ok(plan)) = (accepted_cluster(0, &case.cluster), parse_plan(&case.plan))
+        else {
             continue;
         };
         let idle = room.vms.iter().filter(|vm| vm.cpu == 0).count();
@@ -603,13 +604,7 @@ fn without_idle_vms_both_sums_are_tested() {
 // ---------------------------------------------------------------- the page
 
 fn drawn(room: &Room, rows: Rows) -> String {
-    page(room, &bare(&steps(rows)), Whose::Model).expect("a plan that fits")
-}
-
-fn has(page: &str, all: &[&str]) {
-    for words in all {
-        assert!(page.contains(words), "{words}");
-    }
+    page(0, room, &bare(&steps(rows)), Whose::Model).expect("a plan that fits")
 }
 
 const NEEDS_ONLY_MEMORY: &str = "A VM with CPU 0 needs only memory to arrive";

@@ -15,11 +15,11 @@ use kobdrieft_model::*;
 
 /// The refusal of a cluster beside a plan of no steps, or 0; building gives the same, but not 19.
 fn number_of(cluster: &[u8]) -> u8 {
-    let number = match check(cluster, &[]) {
+    let number = match check(0, cluster, &[]) {
         Verdict::Accepted { .. } => 0,
         Verdict::Refused { number, .. } => number,
     };
-    match build(cluster, &mut [0; 2_562]) {
+    match build(0, cluster, &mut [0; 2_562]) {
         Answer::Refused { number: built, .. } => assert_eq!(built, number),
         _ => assert!(matches!(number, 0 | 19), "{number}"),
     }
@@ -39,9 +39,9 @@ fn a_record_of_version_2() {
         hex("02 00000023 0002 0002 0000 0000040064 0000040064 0000030032 ff 01 0000020032 01 ff");
     assert_eq!(cluster_bytes(&turn()), record);
     assert_eq!(parse_cluster(&record), Ok(turn()));
-    assert_eq!(plan_text(&record), "plan steps 2 moves 2 cost 3\n1 1 1 255\n2 0 255 1\n");
+    assert_eq!(plan_text(0, &record), "plan steps 2 moves 2 cost 3\n1 1 1 255\n2 0 255 1\n");
     let mut out = [0xAA; 2_562];
-    assert_eq!(build(&record, &mut out), Answer::Plan { steps: 2, moves: 2, cost: 3 });
+    assert_eq!(build(0, &record, &mut out), Answer::Plan { steps: 2, moves: 2, cost: 3 });
     assert_eq!(out[..17], hex("02 00000011 0002 0001 01 01 ff 0001 00 ff 01"));
     assert!(out[17..].iter().all(|&b| b == 0xAA));
     let mut one = record.clone();
@@ -115,9 +115,9 @@ fn the_version_alone_changes_nothing() {
         }
         let [one, two] =
             Version::ALL.map(|version| cluster_bytes(&Room { version, ..room.clone() }));
-        let verdict = check(&one, &case.plan);
-        assert_eq!(check(&two, &case.plan), verdict, "{case:?}");
-        assert_eq!(plan_text(&two), plan_text(&one));
+        let verdict = check(0, &one, &case.plan);
+        assert_eq!(check(0, &two, &case.plan), verdict, "{case:?}");
+        assert_eq!(plan_text(0, &two), plan_text(0, &one));
         compared[match verdict {
             Verdict::Accepted { .. } => 0,
             Verdict::Refused { number, .. } => usize::from(number),
@@ -150,7 +150,7 @@ fn every_destination() {
                     Verdict::Refused { number: 19, .. } if !right => refused(27, 1),
                     _ => expected,
                 };
-                assert_eq!(check(&cluster, &plan), expected, "VM {vm} from {from} to {to}");
+                assert_eq!(check(0, &cluster, &plan), expected, "VM {vm} from {from} to {to}");
             }
         }
     }
@@ -372,15 +372,15 @@ fn blocked_launches() {
     assert_eq!(steps_for(&off), (steps(&[&[(3, DOWN)]]), false));
     let cluster = cluster_bytes(&off);
     let mut out = [0; 2_562];
-    assert_eq!(build(&cluster, &mut out), Answer::Blocked { steps: 1, moves: 1, cost: 0 });
-    assert_eq!(check(&cluster, &out[..12]), refused(19, 0));
+    assert_eq!(build(0, &cluster, &mut out), Answer::Blocked { steps: 1, moves: 1, cost: 0 });
+    assert_eq!(check(0, &cluster, &out[..12]), refused(19, 0));
 }
 
 #[test]
 fn nobody_to_move() {
     let room = room_2(&[node(0, 0)], &[vm(9, 9, DOWN, DOWN), vm(9, 9, DOWN, DOWN)], &[]);
-    assert_eq!(plan_text(&cluster_bytes(&room)), "plan steps 0 moves 0 cost 0\n");
-    assert_eq!(check(&cluster_bytes(&room), &[]), accepted(0));
+    assert_eq!(plan_text(0, &cluster_bytes(&room)), "plan steps 0 moves 0 cost 0\n");
+    assert_eq!(check(0, &cluster_bytes(&room), &[]), accepted(0));
 }
 
 // ---------------------------------------------------------------- what changes nothing
@@ -421,10 +421,10 @@ fn vms_that_stay_down() {
         other.constraints.push(Constraint::Fence { vms: vec![down], nodes: vec![] });
         other.constraints.push(Constraint::Latency { vms: vec![down], groups: vec![] });
         let [one, two] = [&room, &other].map(cluster_bytes);
-        assert_eq!(plan_text(&one), plan_text(&two));
+        assert_eq!(plan_text(0, &one), plan_text(0, &two));
         let (plan, _) = plan(&mut rng, &room);
         if plan.steps.iter().flatten().all(|m| m.vm != down) {
-            assert_eq!(check(&one, &plan_bytes(&plan)), check(&two, &plan_bytes(&plan)));
+            assert_eq!(check(0, &one, &plan_bytes(&plan)), check(0, &two, &plan_bytes(&plan)));
             seen += 1;
         }
     }

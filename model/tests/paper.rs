@@ -16,7 +16,7 @@ fn a_bytes() -> Vec<u8> {
 fn planned(room: &Room, record: &str) -> Answer {
     let (cluster, record) = (cluster_bytes(room), hex(record));
     let mut out = vec![0xAA; 2_562];
-    let answer = build(&cluster, &mut out);
+    let answer = build(0, &cluster, &mut out);
     assert_eq!(out[..record.len()], record);
     assert!(out[record.len()..].iter().all(|&b| b == 0xAA));
     let expected = match answer {
@@ -24,9 +24,9 @@ fn planned(room: &Room, record: &str) -> Answer {
         Answer::Blocked { .. } => refused(19, 0),
         Answer::Refused { .. } => panic!("refused"),
     };
-    assert_eq!(check(&cluster, &record), expected);
+    assert_eq!(check(0, &cluster, &record), expected);
     let plan = parse_plan(&record).unwrap();
-    assert_eq!(check(&cluster, &plan_bytes(&bare(&plan.steps))), expected);
+    assert_eq!(check(0, &cluster, &plan_bytes(&bare(&plan.steps))), expected);
     answer
 }
 
@@ -52,7 +52,7 @@ fn a_planned() {
     let answer = planned(&cluster_a(), A_PLANNED);
     assert_eq!(answer, Answer::Plan { steps: 3, moves: 3, cost: 16 });
     let pairs = hex("01 00000013 0003 0001 00 02 0001 01 00 0001 00 01");
-    assert_eq!(check(&a_bytes(), &pairs), Verdict::Accepted { cost: 16 });
+    assert_eq!(check(0, &a_bytes(), &pairs), Verdict::Accepted { cost: 16 });
     let list = steps(&[&[(0, 2)], &[(1, 0)], &[(0, 1)]]);
     assert_eq!(plan_bytes(&bare(&list)), pairs);
     assert_eq!(plan_bytes(&named(&cluster_a(), &list)), hex(A_PLANNED));
@@ -70,7 +70,7 @@ fn a_with_other_sources() {
             changed[at] = source;
             let right = source == record[at];
             let expected = if right { Verdict::Accepted { cost: 16 } } else { refused(27, step) };
-            assert_eq!(check(&a_bytes(), &changed), expected, "step {step}, source {source}");
+            assert_eq!(check(0, &a_bytes(), &changed), expected, "step {step}, source {source}");
         }
     }
 }
@@ -88,7 +88,7 @@ fn fifteen_goes_by_the_place() {
                 (_, 1) => refused(17, 1),
                 _ => refused(19, 0),
             };
-            assert_eq!(check(&a_bytes(), &plan), expected, "from {from} to {to}");
+            assert_eq!(check(0, &a_bytes(), &plan), expected, "from {from} to {to}");
         }
     }
 }
@@ -156,14 +156,14 @@ fn small_limits() {
     let with = |n: usize| cluster_bytes(&room(&vec![node(4, 100); n], &[], &[]));
     for version in Version::ALL {
         let nothing = plan_bytes(&Plan::empty(version));
-        assert_eq!(check(&with(64), &nothing), Verdict::Accepted { cost: 0 });
-        assert_eq!(check(&with(65), &nothing), refused(4, 0));
+        assert_eq!(check(0, &with(64), &nothing), Verdict::Accepted { cost: 0 });
+        assert_eq!(check(0, &with(65), &nothing), refused(4, 0));
     }
     let mut out = vec![0xAA; 2_561];
-    assert_eq!(build(&a_bytes(), &mut out), Answer::Refused { number: 10, step: 0 });
+    assert_eq!(build(0, &a_bytes(), &mut out), Answer::Refused { number: 10, step: 0 });
     assert!(out.iter().all(|&b| b == 0xAA));
     let mut out = vec![0xAA; 2_562];
-    assert!(matches!(build(&a_bytes(), &mut out), Answer::Plan { .. }));
+    assert!(matches!(build(0, &a_bytes(), &mut out), Answer::Plan { .. }));
 }
 
 #[test]
@@ -187,8 +187,8 @@ fn packed_numbers() {
 #[test]
 fn a_printed() {
     let lines = "plan steps 3 moves 3 cost 16\n1 0 0 2\n2 1 1 0\n3 0 2 1\n";
-    assert_eq!(text::plan_text(&a_bytes()), lines);
-    assert_eq!(text::plan_text(&[]), "refused 1 step 0\n");
+    assert_eq!(text::plan_text(0, &a_bytes()), lines);
+    assert_eq!(text::plan_text(0, &[]), "refused 1 step 0\n");
     let blocked = cluster_bytes(&with_memories([4, 4, 1]));
-    assert_eq!(text::plan_text(&blocked), "blocked steps 0 moves 0 cost 0\n");
+    assert_eq!(text::plan_text(0, &blocked), "blocked steps 0 moves 0 cost 0\n");
 }

@@ -14,7 +14,7 @@ fn hold(room: &Room, tail: usize) -> Answer {
     assert!(cluster.len() <= 65_535);
     let mut out: Vec<u8> = (0..2_562 + tail).map(|i| (i % 251) as u8).collect();
     let before = out.clone();
-    let answer = build(&cluster, &mut out);
+    let answer = build(0, &cluster, &mut out);
     let (steps, moves, cost) = match answer {
         Answer::Plan { steps, moves, cost } | Answer::Blocked { steps, moves, cost } => {
             (usize::from(steps), usize::from(moves), cost)
@@ -40,8 +40,8 @@ fn hold(room: &Room, tail: usize) -> Answer {
         Answer::Plan { .. } => Verdict::Accepted { cost },
         _ => Verdict::Refused { number: 19, step: 0 },
     };
-    assert_eq!(check(&cluster, &out[..length]), expected);
-    assert_eq!(check(&cluster, &plan_bytes(&bare(&written))), expected);
+    assert_eq!(check(0, &cluster, &out[..length]), expected);
+    assert_eq!(check(0, &cluster, &plan_bytes(&bare(&written))), expected);
     pack_answer(answer);
     answer
 }

@@ -377,7 +377,7 @@ fn the_last_word_is_the_cost() {
             assert!(err.contains(": refused with number "), "{err}");
             continue;
         };
-        let (number, said) = match check(&cluster, &plan) {
+        let (number, said) = match check(0, &cluster, &plan) {
             Verdict::Accepted { .. } => (0, String::new()),
             Verdict::Refused { number, step } => (number, remark(number, step)),
         };
@@ -491,6 +491,106 @@ fn a_plan_file_that_cannot_be_read() {
         here.fails("cost home.cluster cut", 2, &why);
         here.fails("draw home.cluster cut x.html", 2, &why);
     }
+}
+
+/// A with memory 5: with no reserve both go at once, at 20 percent one steps aside, and from 41 percent
+/// on, with memory 2 of 5 left, the target does not fit.
+#[test]
+fn reserves() {
+    let here = Folder::new("reserve");
+    here.put("five.txt", A.replace("node 4", "node 5"));
+    here.put("both.txt", "step 0 to 1, 1 to 0\n");
+    here.prints("pack five.txt five");
+    here.prints("pack-plan both.txt both");
+    let both = "plan steps 1 moves 2 cost 5\n1 0 0 1\n1 1 1 0\n";
+    let aside = "plan steps 3 moves 3 cost 16\n1 0 0 2\n2 1 1 0\n3 0 2 1\n";
+    assert_eq!(here.prints("plan five plan-0"), both);
+    assert_eq!(here.prints("plan --reserve 0 five plan-00"), both);
+    assert_eq!(here.get("plan-0"), here.get("plan-00"));
+    assert_eq!(here.prints("plan --reserve 20 five plan-20"), aside);
+    assert_eq!(here.prints("check --reserve 0 five both"), "accepted cost 5\n");
+    assert_eq!(here.prints("check --reserve 20 five plan-20"), "accepted cost 16\n");
+    assert_eq!(here.prints("check --reserve 040 five plan-20"), "accepted cost 16\n");
+    here.refuses("check --reserve 20 five both", 17, 1);
+    here.refuses("check --reserve 41 five plan-20", 8, 0);
+    here.refuses("plan --reserve 90 five x", 8, 0);
+
+    here.prints("draw five both plain.html");
+    here.prints("draw --reserve 0 five both zero.html");
+    assert_eq!(here.get("plain.html"), here.get("zero.html"));
+    here.prints("draw --reserve 20 five both page.html 'refused 17 step 1'");
+    let page = String::from_utf8(here.get("page.html")).unwrap();
+    for words in ["reserve 20 percent</h1>", "Verdict of the proved checker: <b>refused 17 step 1"]
+    {
+        assert!(page.contains(words), "{words}");
+    }
+    let differ =
+        "the verdicts differ: 'accepted cost 5' is given, the model says 'refused 17 step \
+                  1'; nothing is drawn";
+    here.fails("draw --reserve 20 five both x 'accepted cost 5'", 3, differ);
+    let (status, table, err) = here.room("cost five both");
+    assert_eq!((status, err.as_str()), (0, ""));
+    assert!(table.ends_with(" 5\n"));
+    assert!(!here.0.join("x").exists());
+}
+
+/// 23 for every number above 90, however long, before all that is wrong with the files; nothing is
+/// written.
+#[test]
+fn reserves_that_are_too_high() {
+    let here = Folder::new("too-high");
+    here.put_both();
+    here.put("short", [1, 0, 0]);
+    here.put("none", "");
+    let long = "9".repeat(60);
+    for reserve in ["91", "0091", "256", "18446744073709551615", "18446744073709551616", &long] {
+        for files in ["a.cluster both.plan", "short short", "none none"] {
+            here.refuses(&format!("check --reserve {reserve} {files}"), 23, 0);
+            let why = format!("--reserve: refused with number 23: {}", reason(23));
+            here.fails(&format!("draw --reserve {reserve} {files} x"), 2, &why);
+        }
+        for cluster in ["a.cluster", "short", "none"] {
+            here.refuses(&format!("plan --reserve {reserve} {cluster} x"), 23, 0);
+        }
+    }
+    for (words, number) in [("check --reserve 90 short short", 1), ("plan --reserve 90 short x", 1)]
+    {
+        here.refuses(words, number, 0);
+    }
+    assert!(!here.0.join("x").exists());
+}
+
+/// A reserve is decimal digits, straight behind a command that looks at one.
+#[test]
+fn reserves_that_are_not_understood() {
+    let here = Folder::new("reserve-words");
+    here.put_both();
+    for digits in ["''", "+1", "-1", "1.5", "ten", "10%", "0x10", "' 1'", "a.cluster"] {
+        for command in ["plan", "check", "draw"] {
+            let files = "a.cluster both.plan x";
+            let words = digits.trim_matches('\'');
+            let why = format!("'{words}' stands where a reserve should, a number in digits");
+            here.fails(&format!("{command} --reserve {digits} {files}"), 3, &why);
+        }
+    }
+    for words in [
+        "plan --reserve 10",
+        "plan --reserve",
+        "plan a.cluster --reserve 10 x",
+        "plan a.cluster x --reserve 10",
+        "check --reserve=10 a.cluster both.plan",
+        "check --reserve 10 --reserve 10 a.cluster both.plan",
+        "check -r 10 a.cluster both.plan",
+        "--reserve 10 check a.cluster both.plan",
+        "cost --reserve 10 a.cluster both.plan",
+        "unpack --reserve 10 a.cluster",
+        "pack --reserve 10 a.txt x",
+    ] {
+        let (status, out, err) = here.room(words);
+        assert!(status == 3 && out.is_empty(), "{words}: {err}");
+        assert!(err.contains("room pack TEXT CLUSTER"), "{words}: {err}");
+    }
+    assert!(!here.0.join("x").exists());
 }
 
 #[test]

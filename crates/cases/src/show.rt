@@ -1,4 +1,4 @@
-// A line for each case: what the library says of it, and what it is.
+// A line for each case: what the library says of it at reserve 0, and what it is.
 use planner::Answer;
 use planner::Made;
 use rules::Verdict;
@@ -12,7 +12,7 @@ fn line(label: &[u8], number: u64) {
 
 // The verdict on a plan for a cluster.
 pub fn verdict(cluster: &[u8], plan: &[u8], label: &[u8]) {
-    let found = rules::verdict_on(cluster, plan);
+    let found = rules::verdict_on(0, cluster, plan);
     match found {
         Verdict::Accepted(cost) => {
             io::write_all(1, b"accepted cost ");
@@ -40,7 +40,7 @@ fn made(m: Made, label: &[u8]) {
 // What the planner answers, with the first so many bytes lent to it.
 fn asked(cluster: &[u8], out: &mut [u8], size: usize, label: &[u8]) {
     if size <= out.len() {
-        let found = planner::answer_to(cluster, &mut out[0..size]);
+        let found = planner::answer_to(0, cluster, &mut out[0..size]);
         match found {
             Answer::Plan(m) => {
                 io::write_all(1, b"plan");

@@ -1,6 +1,11 @@
-// The files of the programs: read to their end or not at all, written whole or not; what cannot be is said on standard error, and why.
+// The files and the arguments of the programs: a file is read to its end or not at all, and written whole or not; what cannot be is said on
+// standard error, and why.
+mod number;
+
 use libc::STDERR_FILENO;
 use libc::STDIN_FILENO;
+pub use number::Number;
+use number::number_in;
 ghost use mathlib.Core.Path.{_≡_};
 ghost use lib.ListN.{take};
 
@@ -111,4 +116,30 @@ pub fn save(program: &[u8], argument: usize, bytes: &[u8]) -> bool {
     let mut path = io::buffer();
     let n = os::arg(argument, &mut path);
     save_path(program, &path[..n], bytes)
+}
+
+// Says that an argument, which is called so, is no number.
+fn no_number(program: &[u8], what: &[u8], text: &[u8]) {
+    io::write_all(STDERR_FILENO, program);
+    io::write_all(STDERR_FILENO, b": ");
+    io::write_all(STDERR_FILENO, what);
+    io::write_all(STDERR_FILENO, b" is not a number in digits: ");
+    io::write_all(STDERR_FILENO, text);
+    io::write_all(STDERR_FILENO, b"\n");
+}
+
+// The number that a text is; if it is none, that is said.
+fn read_number(program: &[u8], what: &[u8], text: &[u8]) -> Number {
+    let found = number_in(text);
+    if let Number::Not = found {
+        no_number(program, what, text);
+    }
+    found
+}
+
+// The number that an argument is. One that is too long for the buffer is read as empty, and so is none.
+pub fn load_number(program: &[u8], what: &[u8], argument: usize) -> Number {
+    let mut text = io::buffer();
+    let n = os::arg(argument, &mut text);
+    read_number(program, what, &text[..n])
 }

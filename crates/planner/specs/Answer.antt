@@ -1,11 +1,11 @@
--- The planner's answer: a plan, or blocked, with what it wrote; or a refusal (01, "The planner" and refusals 1 to 10).
+-- The planner's answer: a plan, or blocked, with what it wrote; or a refusal (01, "The planner" and refusals 1 to 10; 02, Job 5).
 use Prim.Native.Nat.{ℕ, _+_, _*_, _^_}
 use mathlib.Core.List.{List, _++_}
 use lib.ListN.{length, take, drop}
 use lib.Dec.{ltb}
 use Rattle.records.specs.Base.{pick}
 use Rattle.records.specs.Bytes.{be32}
-use Rattle.records.specs.Room.{Room, roomOf, clusterCheck, clusterNumber}
+use Rattle.records.specs.Room.{Room, mostReserve, roomAt, clusterCheck, clusterNumber}
 use Rattle.records.specs.Plan.{Step, moveTotal}
 use Rattle.records.specs.declared.faults.ClusterCheck.{ClusterCheck}
 use Rattle.rules.specs.Moments.{currentOf}
@@ -17,7 +17,7 @@ use Rattle.rules.specs.declared.faults.TargetCheck.{TargetCheck}
 use Rattle.planner.specs.Picks.{picked}
 use Rattle.planner.specs.declared.answer.Made.{Made}
 use Rattle.planner.specs.declared.answer.BuildFault.{BuildFault}
-use Rattle.planner.specs.declared.answer.BuildFault.the-variants.{Cluster, Target, Buffer}
+use Rattle.planner.specs.declared.answer.BuildFault.the-variants.{Reserve, Cluster, Target, Buffer}
 use Rattle.planner.specs.declared.answer.Answer.{Answer}
 use Rattle.planner.specs.declared.answer.Answer.the-variants.{Plan, Blocked, Refused}
 
@@ -38,6 +38,9 @@ abbrev pub leastBuffer : ℕ
 leastBuffer = 2562
 
 -- what each check says, and what follows if it finds nothing
+unfoldable pub answerReserve : ℕ → Answer → Answer
+answerReserve reserve rest = pick (ltb mostReserve reserve) (Refused Reserve) rest
+
 unfoldable pub answerCluster : ClusterCheck → Answer → Answer
 answerCluster ClusterCheck.Whole rest = rest
 answerCluster (ClusterCheck.Damaged fault) rest = Refused (Cluster fault)
@@ -46,13 +49,14 @@ unfoldable pub answerTarget : TargetCheck → Answer → Answer
 answerTarget TargetCheck.Good rest = rest
 answerTarget (TargetCheck.Bad fault) rest = Refused (Target fault)
 
--- the answer to a cluster record and a buffer of a given size: 1 to 7, 8 and 9, 10, then the outcome
-unfoldable pub answerOf : List ℕ → ℕ → Answer
-answerOf cluster size =
-    answerCluster (clusterCheck cluster)
-    (answerTarget (targetCheck (roomOf cluster))
+-- the answer to a cluster record at a reserve, and a buffer of a given size: 23, 1 to 7, 8 and 9, 10, then the outcome
+unfoldable pub answerOf : ℕ → List ℕ → ℕ → Answer
+answerOf reserve cluster size =
+    answerReserve reserve
+    (answerCluster (clusterCheck cluster)
+    (answerTarget (targetCheck (roomAt reserve cluster))
     (pick (ltb size leastBuffer) (Refused Buffer)
-    (outcome (roomOf cluster) (stepsFor (roomOf cluster)))))
+    (outcome (roomAt reserve cluster) (stepsFor (roomAt reserve cluster))))))
 
 -- what is then in the buffer: on a refusal what was there; else the record of the steps at its front, and behind it what was there
 unfoldable pub bufferOf : Answer → List ℕ → List ℕ → List ℕ
@@ -64,8 +68,9 @@ bufferOf (Blocked made) plan buffer = plan ++ drop (length plan) buffer
 unfoldable pub frontOf : List ℕ → List ℕ
 frontOf buffer = take (be32 buffer 1) buffer
 
--- 01's number of each refusal; its step is 0
+-- the documents' number of each refusal; its step is 0
 abbrev pub buildNumber : BuildFault → ℕ
+buildNumber Reserve = 23
 buildNumber (Cluster fault) = clusterNumber fault
 buildNumber (Target fault) = targetNumber fault
 buildNumber Buffer = 10

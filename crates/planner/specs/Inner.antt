@@ -6,7 +6,7 @@ use mathlib.Core.Path.{_≡_}
 use lib.ListN.{length, getD, set}
 use lib.Dec.{eqb}
 use Rattle.records.specs.Base.{pick, all}
-use Rattle.records.specs.Room.{Constraint, ban, fence, spread, latency, Room, roomOf, vmOf, vmCount, constraintOf}
+use Rattle.records.specs.Room.{Constraint, ban, fence, spread, latency, Room, roomOf, roomAt, vmOf, vmCount, constraintOf}
 use Rattle.records.specs.Plan.{Step, withSources, moveTotal, stepsBytes, written, shaped}
 use Rattle.records.specs.Inner.{tellsSources}
 use Rattle.records.specs.declared.plan.Source.the-variants.{Unnamed, Named}
@@ -62,16 +62,16 @@ pub record Light (tally : Tally) : Type 0 where
   pub cpu : tally .cpu < 2 ^ 40
 
 -- VM v may go to d, whose tally with those moves running is given if it is a node
-unfoldable pub joinsIn : List ℕ → List ℕ → List ℕ → Tally → ℕ → ℕ → Bool
-joinsIn s places dests here v d =
+unfoldable pub joinsIn : ℕ → List ℕ → List ℕ → List ℕ → Tally → ℕ → ℕ → Bool
+joinsIn reserve s places dests here v d =
     not (eqb (getD places v 0) d) &&
-    (allowed (roomOf s) v d &&
-    (bearsAt (roomOf s) d (withVm here (vmOf (roomOf s) v)) (vmOf (roomOf s) v) &&
-    not (meetsMate (roomOf s) (busyFrom places dests 0 (vmCount s)) v d)))
+    (allowed (roomAt reserve s) v d &&
+    (bearsAt (roomAt reserve s) d (withVm here (vmOf (roomAt reserve s) v)) (vmOf (roomAt reserve s) v) &&
+    not (meetsMate (roomAt reserve s) (busyFrom places dests 0 (vmCount s)) v d)))
 
 -- where VM v goes: to its target if it may, else it has no move
-unfoldable pub goalOf : List ℕ → List ℕ → List ℕ → Tally → ℕ → ℕ
-goalOf s places dests here v = pick (joinsIn s places dests here v (vmOf (roomOf s) v .target)) (vmOf (roomOf s) v .target) noMove
+unfoldable pub goalOf : ℕ → List ℕ → List ℕ → List ℕ → Tally → ℕ → ℕ
+goalOf reserve s places dests here v = pick (joinsIn reserve s places dests here v (vmOf (roomAt reserve s) v .target)) (vmOf (roomAt reserve s) v .target) noMove
 
 -- ---- pivots
 
@@ -127,16 +127,16 @@ behindStep d p = pick (eqb d noMove) p d
 -- ---- the steps written
 
 -- the steps of the planner stand in the buffer behind the place of the header, and nothing else has changed
-pub record Trailed (s before after : List ℕ) (r : Trail) : Type 0 where
-  pub buffer : after ≡ written before 7 (stepsBytes (stepsFor (roomOf s)))
-  pub end : r .end ≡ 7 + length (stepsBytes (stepsFor (roomOf s)))
-  pub steps : r .steps ≡ length (stepsFor (roomOf s))
-  pub moves : r .moves ≡ moveTotal (stepsFor (roomOf s))
-  pub home : r .home ≡ home (roomOf s) (afterAll (currentOf (roomOf s)) (stepsFor (roomOf s)))
-  pub tells : all tellsSources (stepsFor (roomOf s)) ≡ true
-  pub shaped : shaped (stepsFor (roomOf s)) ≡ true
-  pub steps-most : length (stepsFor (roomOf s)) ≤ 511
-  pub moves-most : moveTotal (stepsFor (roomOf s)) ≤ 511
+pub record Trailed (reserve : ℕ) (s before after : List ℕ) (r : Trail) : Type 0 where
+  pub buffer : after ≡ written before 7 (stepsBytes (stepsFor (roomAt reserve s)))
+  pub end : r .end ≡ 7 + length (stepsBytes (stepsFor (roomAt reserve s)))
+  pub steps : r .steps ≡ length (stepsFor (roomAt reserve s))
+  pub moves : r .moves ≡ moveTotal (stepsFor (roomAt reserve s))
+  pub home : r .home ≡ home (roomAt reserve s) (afterAll (currentOf (roomAt reserve s)) (stepsFor (roomAt reserve s)))
+  pub tells : all tellsSources (stepsFor (roomAt reserve s)) ≡ true
+  pub shaped : shaped (stepsFor (roomAt reserve s)) ≡ true
+  pub steps-most : length (stepsFor (roomAt reserve s)) ≤ 511
+  pub moves-most : moveTotal (stepsFor (roomAt reserve s)) ≤ 511
 
 -- ---- the number returned
 

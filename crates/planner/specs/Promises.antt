@@ -7,7 +7,7 @@ use mathlib.Core.Logic.{_↔_, _⊎_}
 use mathlib.Core.Path.{_≡_}
 use lib.ListN.{length}
 use Rattle.records.specs.Bytes.{versionOf}
-use Rattle.records.specs.Room.{Room, roomOf, clusterCheck}
+use Rattle.records.specs.Room.{Room, mostReserve, roomAt, clusterCheck}
 use Rattle.records.specs.Plan.{Step, stepsOf, moveTotal, headerBytes, planBytes, writtenVersion}
 use Rattle.records.specs.declared.faults.ClusterCheck.{ClusterCheck}
 use Rattle.rules.specs.Moments.{Placement, currentOf}
@@ -29,15 +29,15 @@ use Rattle.planner.specs.declared.answer.Answer.the-variants.{Plan, Bloc
 -- ---- the answer
 
 -- an answer is the one defined, and the buffer the one that goes with it
-pub record Answers (cluster : List ℕ) (answer : Answer) (before after : List ℕ) (r : Answer) : Type 0 where
+pub record Answers (reserve : ℕ) (cluster : List ℕ) (answer : Answer) (before after : List ℕ) (r : Answer) : Type 0 where
   pub is : r ≡ answer
-  pub buffer : after ≡ bufferOf answer (planBytes (stepsFor (roomOf cluster))) before
+  pub buffer : after ≡ bufferOf answer (planBytes (stepsFor (roomAt reserve cluster))) before
 
 -- the counts and the cost that a returned number tells
 abbrev pub toldMade : ℕ → Made
 toldMade r = record { steps = toldSteps r; moves = toldMoves r; cost = toldCost r }
 
--- a number tells an answer: taken apart it says a plan or blocked with these counts and this cost, or refused with 01's number and step 0;
+-- a number tells an answer: taken apart it says a plan or blocked with these counts and this cost, or refused with the documents' number and step 0;
 -- what does not apply reads 0
 abbrev pub TellsMade : ℕ → Made → Type 0
 TellsMade r made = (toldSteps r ≡ made .steps) × (toldMoves r ≡ made .moves) × (toldCost r ≡ made .cost)
@@ -59,26 +59,26 @@ pub record Stuck (room : Room) (places : Placement) : Type 0 where
 -- ---- the record written
 
 -- what holds of its steps, of a plan and of blocked alike
-pub record Written (cluster plan : List ℕ) (made : Made) : Type 0 where
+pub record Written (reserve : ℕ) (cluster plan : List ℕ) (made : Made) : Type 0 where
   -- they are the ones that the planner picks
-  pub picks : Picks (roomOf cluster) (currentOf (roomOf cluster)) (stepsOf plan)
+  pub picks : Picks (roomAt reserve cluster) (currentOf (roomAt reserve cluster)) (stepsOf plan)
   -- none has fault 15 or 27, and every whole run, whatever its orders, obeys the rules at each begin and reaches one placement
-  pub named : namedAll (roomOf cluster) (currentOf (roomOf cluster)) (stepsOf plan) ≡ true
-  pub well-sourced : sourcedAll (currentOf (roomOf cluster)) (stepsOf plan) ≡ true
-  pub obeys : (last : Placement) (run : Run (roomOf cluster) (currentOf (roomOf cluster)) (stepsOf plan) last) → EachBeginOfRun (Obeys (roomOf cluster)) run
-  pub reaches : (last : Placement) → Run (roomOf cluster) (currentOf (roomOf cluster)) (stepsOf plan) last → last ≡ afterAll (currentOf (roomOf cluster)) (stepsOf plan)
+  pub named : namedAll (roomAt reserve cluster) (currentOf (roomAt reserve cluster)) (stepsOf plan) ≡ true
+  pub well-sourced : sourcedAll (currentOf (roomAt reserve cluster)) (stepsOf plan) ≡ true
+  pub obeys : (last : Placement) (run : Run (roomAt reserve cluster) (currentOf (roomAt reserve cluster)) (stepsOf plan) last) → EachBeginOfRun (Obeys (roomAt reserve cluster)) run
+  pub reaches : (last : Placement) → Run (roomAt reserve cluster) (currentOf (roomAt reserve cluster)) (stepsOf plan) last → last ≡ afterAll (currentOf (roomAt reserve cluster)) (stepsOf plan)
   -- in no run does a node that is within what it has go past it, or one over its memory take a VM, or one over its CPU take an active one, or do
   -- mates that are apart meet
-  pub auditor : StaysWithin (roomOf cluster) (currentOf (roomOf cluster)) (stepsOf plan)
-  pub apart : StaysApart (roomOf cluster) (currentOf (roomOf cluster)) (stepsOf plan)
+  pub auditor : StaysWithin (roomAt reserve cluster) (currentOf (roomAt reserve cluster)) (stepsOf plan)
+  pub apart : StaysApart (roomAt reserve cluster) (currentOf (roomAt reserve cluster)) (stepsOf plan)
   -- nor is a VM taken down that is wanted on a node (02, Job 2)
-  pub running : KeepsRunning (roomOf cluster) (currentOf (roomOf cluster)) (stepsOf plan)
+  pub running : KeepsRunning (roomAt reserve cluster) (currentOf (roomAt reserve cluster)) (stepsOf plan)
   -- how many steps there can be, by the number of VMs out of place at the current nodes
-  pub none : awayCount (roomOf cluster) (currentOf (roomOf cluster)) ≡ 0 → stepsOf plan ≡ []
-  pub short : 0 < awayCount (roomOf cluster) (currentOf (roomOf cluster)) → length (stepsOf plan) + 1 ≤ 2 * awayCount (roomOf cluster) (currentOf (roomOf cluster))
+  pub none : awayCount (roomAt reserve cluster) (currentOf (roomAt reserve cluster)) ≡ 0 → stepsOf plan ≡ []
+  pub short : 0 < awayCount (roomAt reserve cluster) (currentOf (roomAt reserve cluster)) → length (stepsOf plan) + 1 ≤ 2 * awayCount (roomAt reserve cluster) (currentOf (roomAt reserve cluster))
   -- the record names the sources: each move that of its VM when the step starts, in every run (02, Job 7)
   pub version : versionOf plan ≡ writtenVersion
-  pub sources : NamesPlaces (roomOf cluster) (currentOf (roomOf cluster)) (stepsOf plan)
+  pub sources : NamesPlaces (roomAt reserve cluster) (currentOf (roomAt reserve cluster)) (stepsOf plan)
   -- of no steps the header is still written (02, Job 8)
   pub header : stepsOf plan ≡ [] → plan ≡ headerBytes writtenVersion 7 0
   -- the record fits the least buffer that is taken
@@ -86,41 +86,45 @@ pub record Written (cluster plan : List ℕ) (made : Made) : Type 0 where
   -- the counts and the cost given are those of the record
   pub steps : made .steps ≡ length (stepsOf plan)
   pub moves : made .moves ≡ moveTotal (stepsOf plan)
-  pub cost : made .cost ≡ costOf (roomOf cluster) (stepsOf plan)
+  pub cost : made .cost ≡ costOf (roomAt reserve cluster) (stepsOf plan)
 
 -- of a plan: every whole run obeys the rules and ends with every VM on its target, which is what `check` is exact about; and the checker
 -- accepts it at the cost given
-pub record Planned (cluster plan : List ℕ) (made : Made) : Type 0 where
-  pub written : Written cluster plan made
-  pub runs : EveryRun (roomOf cluster) (currentOf (roomOf cluster)) (stepsOf plan)
-  pub accepted : verdictOf cluster plan ≡ Verdict.Accepted (made .cost)
+pub record Planned (reserve : ℕ) (cluster plan : List ℕ) (made : Made) : Type 0 where
+  pub written : Written reserve cluster plan made
+  pub runs : EveryRun (roomAt reserve cluster) (currentOf (roomAt reserve cluster)) (stepsOf plan)
+  pub accepted : verdictOf reserve cluster plan ≡ Verdict.Accepted (made .cost)
 
 -- of blocked: the checker refuses it with 19, step 0
-pub record Halted (cluster plan : List ℕ) (made : Made) : Type 0 where
-  pub written : Written cluster plan made
-  pub refused : verdictOf cluster plan ≡ Verdict.Refused Fault.OffTarget
+pub record Halted (reserve : ℕ) (cluster plan : List ℕ) (made : Made) : Type 0 where
+  pub written : Written reserve cluster plan made
+  pub refused : verdictOf reserve cluster plan ≡ Verdict.Refused Fault.OffTarget
 
 -- ---- the promises
 
--- none of the faults 1 to 10
-pub record Taken (cluster buffer : List ℕ) : Type 0 where
+-- none of the faults 23 and 1 to 10
+pub record Taken (reserve : ℕ) (cluster buffer : List ℕ) : Type 0 where
+  pub reserve-taken : reserve ≤ mostReserve
   pub cluster-whole : clusterCheck cluster ≡ ClusterCheck.Whole
-  pub target-good : targetCheck (roomOf cluster) ≡ TargetCheck.Good
+  pub target-good : targetCheck (roomAt reserve cluster) ≡ TargetCheck.Good
   pub buffer-long : leastBuffer ≤ length buffer
 
--- a field each, on any cluster record and any buffer, and the number returned
-pub record Built (cluster before after : List ℕ) (r : ℕ) : Type 0 where
+-- a field each, on any reserve, any cluster record and any buffer, and the number returned. What a node has is, in all of them and in the records
+-- above, what is usable of it at the reserve (02, Job 5)
+pub record Built (reserve : ℕ) (cluster before after : List ℕ) (r : ℕ) : Type 0 where
   -- it is the answer's, and tells it
-  pub is : r ≡ packedAnswer (answerOf cluster (length before))
-  pub told : TellsAnswer r (answerOf cluster (length before))
+  pub is : r ≡ packedAnswer (answerOf reserve cluster (length before))
+  pub told : TellsAnswer r (answerOf reserve cluster (length before))
   -- every byte of the buffer is as defined
-  pub buffer : after ≡ bufferOf (answerOf cluster (length before)) (planBytes (stepsFor (roomOf cluster))) before
-  -- a plan or blocked, exactly if there is none of the faults 1 to 10
-  pub answers : Taken cluster before ↔ (SaysGood r ⊎ SaysBlocked r)
+  pub buffer : after ≡ bufferOf (answerOf reserve cluster (length before)) (planBytes (stepsFor (roomAt reserve cluster))) before
+  -- 23 exactly if more than 90 percent are to be kept, whatever is lent
+  pub reserved : SaysRefused r 23 0 ↔ (mostReserve < reserve)
+  -- a plan or blocked, exactly if there is none of the faults 23 and 1 to 10
+  pub answers : Taken reserve cluster before ↔ (SaysGood r ⊎ SaysBlocked r)
   -- of a plan, and of blocked: the record at the buffer's front, with the counts and the cost told
-  pub planned : SaysGood r → Planned cluster (frontOf after) (toldMade r)
-  pub halted : SaysBlocked r → Halted cluster (frontOf after) (toldMade r)
-  -- with none of the faults 1 to 10: blocked exactly if the planner is stuck at the placement that the steps reach
-  pub blocked : Taken cluster before → SaysBlocked r ↔ Stuck (roomOf cluster) (afterAll (currentOf (roomOf cluster)) (stepsOf (frontOf after)))
+  pub planned : SaysGood r → Planned reserve cluster (frontOf after) (toldMade r)
+  pub halted : SaysBlocked r → Halted reserve cluster (frontOf after) (toldMade r)
+  -- with none of the faults 23 and 1 to 10: blocked exactly if the planner is stuck at the placement that the steps reach
+  pub blocked : Taken reserve cluster before → SaysBlocked r ↔ Stuck (roomAt reserve cluster) (afterAll (currentOf (roomAt reserve cluster)) (stepsOf (frontOf after)))
   -- sound, wherever Picks and Stuck say it, is sound in every order
-  pub sound : (places : Placement) (step : Step) → (soundStep (roomOf cluster) places step ≡ true) ↔ SoundInOrders (roomOf cluster) places step
+  pub sound : (places : Placement) (step : Step) → (soundStep (roomAt reserve cluster) places step ≡ true) ↔ SoundInOrders (roomAt reserve cluster) places step

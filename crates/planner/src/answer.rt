@@ -14,8 +14,9 @@ pub struct Made {
     pub cost: u64,
 }
 
-// A fault of the cluster record, of its target, or a buffer that is too short.
+// A reserve that is too large, a fault of the cluster record or of its target, or a buffer that is too short.
 pub enum BuildFault {
+    Reserve,
     Cluster(ClusterFault),
     Target(TargetFault),
     Buffer,
@@ -27,11 +28,12 @@ pub enum Answer {
     Refused(BuildFault),
 }
 
-// Document 01's number of a refusal.
+// The documents' number of a refusal.
 pub fn build_number(f: BuildFault) -> u64
     ensures { λ r. ⌜ (r ≡ buildNumber f) × (r < 256) ⌝ }
 {
     match f {
+        BuildFault::Reserve => 23,
         BuildFault::Cluster(c) => records::cluster_number(c),
         BuildFault::Target(t) => rules::target_number(t),
         BuildFault::Buffer => 10,

@@ -8,24 +8,31 @@ use rules::Placement;
 use rules::Tally;
 ghost use mathlib.Core.Path.{_≡_};
 ghost use mathlib.Core.Bool.{true};
-ghost use Prim.Native.Nat.{_<_};
-ghost use Rattle.records.specs.Room.{roomOf, nodeOf, vmOf, nodeCount, vmCount, placeOk, clusterCheck};
+ghost use Prim.Native.Nat.{_≤_, _<_};
+ghost use Rattle.records.specs.Room.{mostReserve, roomAt, nodeOf, vmOf, nodeCount, vmCount, placeOk, clusterCheck};
 ghost use Rattle.records.specs.declared.faults.ClusterCheck.{ClusterCheck};
 ghost use Rattle.rules.specs.Moments.{bears, withVm};
 ghost use Rattle.rules.specs.Inner.{Allows};
 ghost use Rattle.planner.specs.Inner.{Pairs, joinsIn, Light};
 
 // Whether node d bears a tally with VM v added, for that VM.
-fn fits_with(cluster: &[u8], here: Tally, v: usize, d: usize) -> bool
-    requires { ⌜ (clusterCheck (now cluster) ≡ ClusterCheck.Whole) × (v < vmCount (now cluster)) × (d < nodeCount (now cluster)) × Light here ⌝ }
-    ensures { λ r. ⌜ r ≡ bears (nodeOf (roomOf (now (cluster .entry))) d) (withVm here (vmOf (roomOf (now (cluster .entry))) v)) (vmOf (roomOf (now (cluster .entry))) v) ⌝ }
+fn fits_with(reserve: u64, cluster: &[u8], here: Tally, v: usize, d: usize) -> bool
+    requires { ⌜ (clusterCheck (now cluster) ≡ ClusterCheck.Whole) × (reserve ≤ mostReserve) × (v < vmCount (now cluster)) × (d < nodeCount (now cluster)) × Light here ⌝ }
+    ensures { λ r. ⌜ r ≡ bears (nodeOf (roomAt reserve (now (cluster .entry))) d) (withVm here (vmOf (roomAt reserve (now (cluster .entry))) v)) (vmOf (roomAt reserve (now (cluster .entry))) v) ⌝ }
 {
-    rules::bears_vm(cluster, d, here.with(rules::need_of(cluster, v)), v)
+    rules::bears_vm(
+        reserve,
+        cluster,
+        d,
+        here.with(rules::need_of(cluster, v)),
+        v,
+    )
 }
 
 // Whether VM v may go to d beside the moves of an array of destinations, `here` being the tally of d with those moves running if d is a node.
 // To no node nothing is asked.
 pub fn may_join(
+    reserve: u64,
     cluster: &[u8],
     allow: &AllowTable,
     pairs: &PairTable,
@@ -35,8 +42,8 @@ pub fn may_join(
     v: usize,
     d: usize,
 ) -> bool
-    requires { ⌜ (clusterCheck (now cluster) ≡ ClusterCheck.Whole) × Allows (now cluster) (now allow) × Pairs (now cluster) (now pairs) × (v < vmCount (now cluster)) × (placeOk true (nodeCount (now cluster)) d ≡ true) × Light here ⌝ }
-    ensures { λ r. ⌜ r ≡ joinsIn (now (cluster .entry)) (now (places .entry)) (now (dests .entry)) here v d ⌝ }
+    requires { ⌜ (clusterCheck (now cluster) ≡ ClusterCheck.Whole) × (reserve ≤ mostReserve) × Allows (now cluster) (now allow) × Pairs (now cluster) (now pairs) × (v < vmCount (now cluster)) × (placeOk true (nodeCount (now cluster)) d ≡ true) × Light here ⌝ }
+    ensures { λ r. ⌜ r ≡ joinsIn reserve (now (cluster .entry)) (now (places .entry)) (now (dests .entry)) here v d ⌝ }
 {
     if rules::place_at(places, v) == d {
         return false;
@@ -47,7 +54,7 @@ pub fn may_join(
     if allow[v * NODES + d] == 0 {
         return false;
     }
-    if !fits_with(cluster, here, v, d) {
+    if !fits_with(reserve, cluster, here, v, d) {
         return false;
     }
     !meets(cluster, pairs, places, dests, v, d)

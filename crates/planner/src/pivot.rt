@@ -12,9 +12,9 @@ use rules::Tally;
 use rules::VMS;
 ghost use mathlib.Core.Path.{_≡_};
 ghost use mathlib.Core.List.{[], _∷_};
-ghost use Prim.Native.Nat.{_<_};
+ghost use Prim.Native.Nat.{_≤_, _<_};
 ghost use lib.ListN.{replicate};
-ghost use Rattle.records.specs.Room.{roomOf, vmCount, nodeCount, clusterCheck};
+ghost use Rattle.records.specs.Room.{mostReserve, roomAt, vmCount, nodeCount, clusterCheck};
 ghost use Rattle.records.specs.declared.faults.ClusterCheck.{ClusterCheck};
 ghost use Rattle.rules.specs.Rules.{soundStep};
 ghost use Rattle.rules.specs.Inner.{held, Allows, Placed, Loads, destsFrom};
@@ -23,6 +23,7 @@ ghost use Rattle.planner.specs.Inner.{Pairs, Rested, aside, pivotNode, c
 
 // Whether moving VM v alone to node d is a sound step, `here` being the tally of d with all VMs at rest.
 fn goes_alone(
+    reserve: u64,
     cluster: &[u8],
     allow: &AllowTable,
     pairs: &PairTable,
@@ -31,15 +32,16 @@ fn goes_alone(
     v: usize,
     d: usize,
 ) -> bool
-    requires { ⌜ (clusterCheck (now cluster) ≡ ClusterCheck.Whole) × Allows (now cluster) (now allow) × Pairs (now cluster) (now pairs) × (v < vmCount (now cluster)) × (d < nodeCount (now cluster)) × Rested (now cluster) (now places) d here ⌝ }
-    ensures { λ r. ⌜ r ≡ soundStep (roomOf (now (cluster .entry))) (held (now (cluster .entry)) (now (places .entry))) (moving v d ∷ []) ⌝ }
+    requires { ⌜ (clusterCheck (now cluster) ≡ ClusterCheck.Whole) × (reserve ≤ mostReserve) × Allows (now cluster) (now allow) × Pairs (now cluster) (now pairs) × (v < vmCount (now cluster)) × (d < nodeCount (now cluster)) × Rested (now cluster) (now places) d here ⌝ }
+    ensures { λ r. ⌜ r ≡ soundStep (roomAt reserve (now (cluster .entry))) (held (now (cluster .entry)) (now (places .entry))) (moving v d ∷ []) ⌝ }
 {
     let rest = [NO_MOVE; VMS];
-    may_join(cluster, allow, pairs, places, &rest, here, v, d)
+    may_join(reserve, cluster, allow, pairs, places, &rest, here, v, d)
 }
 
 // The same, but not to its target.
 fn goes_aside(
+    reserve: u64,
     cluster: &[u8],
     allow: &AllowTable,
     pairs: &PairTable,
@@ -48,17 +50,18 @@ fn goes_aside(
     v: usize,
     d: usize,
 ) -> bool
-    requires { ⌜ (clusterCheck (now cluster) ≡ ClusterCheck.Whole) × Allows (now cluster) (now allow) × Pairs (now cluster) (now pairs) × (v < vmCount (now cluster)) × (d < nodeCount (now cluster)) × Rested (now cluster) (now places) d here ⌝ }
-    ensures { λ r. ⌜ r ≡ aside (roomOf (now (cluster .entry))) (held (now (cluster .entry)) (now (places .entry))) v d ⌝ }
+    requires { ⌜ (clusterCheck (now cluster) ≡ ClusterCheck.Whole) × (reserve ≤ mostReserve) × Allows (now cluster) (now allow) × Pairs (now cluster) (now pairs) × (v < vmCount (now cluster)) × (d < nodeCount (now cluster)) × Rested (now cluster) (now places) d here ⌝ }
+    ensures { λ r. ⌜ r ≡ aside (roomAt reserve (now (cluster .entry))) (held (now (cluster .entry)) (now (places .entry))) v d ⌝ }
 {
     if records::vm_target(cluster, v) as usize == d {
         return false;
     }
-    goes_alone(cluster, allow, pairs, places, here, v, d)
+    goes_alone(reserve, cluster, allow, pairs, places, here, v, d)
 }
 
 // The lowest node that VM v may go to alone, its target left out; the number of nodes if there is none.
 fn pivot_node(
+    reserve: u64,
     cluster: &[u8],
     allow: &AllowTable,
     pairs: &PairTable,
@@ -66,14 +69,14 @@ fn pivot_node(
     sums: Sums,
     v: usize,
 ) -> usize
-    requires { ⌜ (clusterCheck (now cluster) ≡ ClusterCheck.Whole) × Allows (now cluster) (now allow) × Pairs (now cluster) (now pairs) × Loads (now cluster) (now places) (replicate 256 64) sums × (v < vmCount (now cluster)) ⌝ }
-    ensures { λ r. ⌜ r ≡ pivotNode (roomOf (now (cluster .entry))) (held (now (cluster .entry)) (now (places .entry))) v (nodesIn (roomOf (now (cluster .entry)))) ⌝ }
+    requires { ⌜ (clusterCheck (now cluster) ≡ ClusterCheck.Whole) × (reserve ≤ mostReserve) × Allows (now cluster) (now allow) × Pairs (now cluster) (now pairs) × Loads (now cluster) (now places) (replicate 256 64) sums × (v < vmCount (now cluster)) ⌝ }
+    ensures { λ r. ⌜ r ≡ pivotNode (roomAt reserve (now (cluster .entry))) (held (now (cluster .entry)) (now (places .entry))) v (nodesIn (roomAt reserve (now (cluster .entry)))) ⌝ }
 {
     let n = records::node_count(cluster);
     let mut d: usize = 0;
     while d < n {
         let here = sums[d];
-        if goes_aside(cluster, allow, pairs, places, here, v, d) {
+        if goes_aside(reserve, cluster, allow, pairs, places, here, v, d) {
             return d;
         }
         d += 1;
@@ -83,6 +86,7 @@ fn pivot_node(
 
 // Whether VM u is not v, is wanted on node p, and may go there alone.
 fn comes(
+    reserve: u64,
     cluster: &[u8],
     allow: &AllowTable,
     pairs: &PairTable,
@@ -92,8 +96,8 @@ fn comes(
     p: usize,
     u: usize,
 ) -> bool
-    requires { ⌜ (clusterCheck (now cluster) ≡ ClusterCheck.Whole) × Allows (now cluster) (now allow) × Pairs (now cluster) (now pairs) × (u < vmCount (now cluster)) × (p < nodeCount (now cluster)) × Rested (now cluster) (now places) p here ⌝ }
-    ensures { λ r. ⌜ r ≡ comer (roomOf (now (cluster .entry))) (held (now (cluster .entry)) (now (places .entry))) v p u ⌝ }
+    requires { ⌜ (clusterCheck (now cluster) ≡ ClusterCheck.Whole) × (reserve ≤ mostReserve) × Allows (now cluster) (now allow) × Pairs (now cluster) (now pairs) × (u < vmCount (now cluster)) × (p < nodeCount (now cluster)) × Rested (now cluster) (now places) p here ⌝ }
+    ensures { λ r. ⌜ r ≡ comer (roomAt reserve (now (cluster .entry))) (held (now (cluster .entry)) (now (places .entry))) v p u ⌝ }
 {
     if records::vm_target(cluster, u) as usize != p {
         return false;
@@ -101,11 +105,12 @@ fn comes(
     if u == v {
         return false;
     }
-    goes_alone(cluster, allow, pairs, places, here, u, p)
+    goes_alone(reserve, cluster, allow, pairs, places, here, u, p)
 }
 
 // Whether some VM other than v may go alone to node p, its target.
 fn some_comes(
+    reserve: u64,
     cluster: &[u8],
     allow: &AllowTable,
     pairs: &PairTable,
@@ -113,8 +118,8 @@ fn some_comes(
     v: usize,
     p: usize,
 ) -> bool
-    requires { ⌜ (clusterCheck (now cluster) ≡ ClusterCheck.Whole) × Allows (now cluster) (now allow) × Pairs (now cluster) (now pairs) × Placed (now cluster) (now places) × (p < nodeCount (now cluster)) ⌝ }
-    ensures { λ r. ⌜ r ≡ comesTo (roomOf (now (cluster .entry))) (held (now (cluster .entry)) (now (places .entry))) v p (vmsIn (roomOf (now (cluster .entry)))) ⌝ }
+    requires { ⌜ (clusterCheck (now cluster) ≡ ClusterCheck.Whole) × (reserve ≤ mostReserve) × Allows (now cluster) (now allow) × Pairs (now cluster) (now pairs) × Placed (now cluster) (now places) × (p < nodeCount (now cluster)) ⌝ }
+    ensures { λ r. ⌜ r ≡ comesTo (roomAt reserve (now (cluster .entry))) (held (now (cluster .entry)) (now (places .entry))) v p (vmsIn (roomAt reserve (now (cluster .entry)))) ⌝ }
 {
     let n = records::vm_count(cluster);
     let rest = [NO_MOVE; VMS];
@@ -122,7 +127,7 @@ fn some_comes(
     let here = sums[p];
     let mut u: usize = 0;
     while u < n {
-        if comes(cluster, allow, pairs, places, here, v, p, u) {
+        if comes(reserve, cluster, allow, pairs, places, here, v, p, u) {
             return true;
         }
         u += 1;
@@ -132,6 +137,7 @@ fn some_comes(
 
 // The node of VM v's useful pivot; the number of nodes if it has none.
 fn useful_node(
+    reserve: u64,
     cluster: &[u8],
     allow: &AllowTable,
     pairs: &PairTable,
@@ -139,8 +145,8 @@ fn useful_node(
     sums: Sums,
     v: usize,
 ) -> usize
-    requires { ⌜ (clusterCheck (now cluster) ≡ ClusterCheck.Whole) × Allows (now cluster) (now allow) × Pairs (now cluster) (now pairs) × Placed (now cluster) places × Loads (now cluster) places (replicate 256 64) sums × (v < vmCount (now cluster)) × (directStep (roomOf (now cluster)) (held (now cluster) places) ≡ []) ⌝ }
-    ensures { λ r. ⌜ r ≡ usefulNode (roomOf (now (cluster .entry))) (held (now (cluster .entry)) places) v (nodesIn (roomOf (now (cluster .entry)))) ⌝ }
+    requires { ⌜ (clusterCheck (now cluster) ≡ ClusterCheck.Whole) × (reserve ≤ mostReserve) × Allows (now cluster) (now allow) × Pairs (now cluster) (now pairs) × Placed (now cluster) places × Loads (now cluster) places (replicate 256 64) sums × (v < vmCount (now cluster)) × (directStep (roomAt reserve (now cluster)) (held (now cluster) places) ≡ []) ⌝ }
+    ensures { λ r. ⌜ r ≡ usefulNode (roomAt reserve (now (cluster .entry))) (held (now (cluster .entry)) places) v (nodesIn (roomAt reserve (now (cluster .entry)))) ⌝ }
 {
     let n = records::node_count(cluster);
     let p = rules::place_at(&places, v);
@@ -151,13 +157,13 @@ fn useful_node(
     if NODES <= p {
         return n;
     }
-    let d = pivot_node(cluster, allow, pairs, &places, sums, v);
+    let d = pivot_node(reserve, cluster, allow, pairs, &places, sums, v);
     if n <= d {
         return n;
     }
     let mut then = places;
     then[v] = d as u8;
-    if some_comes(cluster, allow, pairs, &then, v, p) {
+    if some_comes(reserve, cluster, allow, pairs, &then, v, p) {
         return d;
     }
     n
@@ -165,13 +171,14 @@ fn useful_node(
 
 // The first useful pivot, VMs tried by number and for each its nodes by number.
 pub fn pivot_step(
+    reserve: u64,
     cluster: &[u8],
     allow: &AllowTable,
     pairs: &PairTable,
     places: Placement,
 ) -> Destinations
-    requires { ⌜ (clusterCheck (now cluster) ≡ ClusterCheck.Whole) × Allows (now cluster) (now allow) × Pairs (now cluster) (now pairs) × Placed (now cluster) places × (directStep (roomOf (now cluster)) (held (now cluster) places) ≡ []) ⌝ }
-    ensures { λ r. ⌜ r ≡ destsFrom (pivotStep (roomOf (now (cluster .entry))) (held (now (cluster .entry)) places)) ⌝ }
+    requires { ⌜ (clusterCheck (now cluster) ≡ ClusterCheck.Whole) × (reserve ≤ mostReserve) × Allows (now cluster) (now allow) × Pairs (now cluster) (now pairs) × Placed (now cluster) places × (directStep (roomAt reserve (now cluster)) (held (now cluster) places) ≡ []) ⌝ }
+    ensures { λ r. ⌜ r ≡ destsFrom (pivotStep (roomAt reserve (now (cluster .entry))) (held (now (cluster .entry)) places)) ⌝ }
 {
     let n = records::vm_count(cluster);
     let nodes = records::node_count(cluster);
@@ -179,7 +186,7 @@ pub fn pivot_step(
     let sums = rules::loads(cluster, &places, &dests);
     let mut v: usize = 0;
     while v < n {
-        let d = useful_node(cluster, allow, pairs, places, sums, v);
+        let d = useful_node(reserve, cluster, allow, pairs, places, sums, v);
         if d < nodes {
             dests[v] = d as u8;
             return dests;

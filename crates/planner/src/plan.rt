@@ -12,7 +12,7 @@ ghost use Prim.Native.Nat.{_≤_};
 ghost use lib.ListN.{length};
 ghost use lib.Dec.{ltb};
 ghost use Rattle.records.specs.Base.{pick};
-ghost use Rattle.records.specs.Room.{roomOf, clusterCheck};
+ghost use Rattle.records.specs.Room.{mostReserve, roomAt, clusterCheck};
 ghost use Rattle.records.specs.declared.faults.ClusterCheck.{ClusterCheck};
 ghost use Rattle.rules.specs.Rules.{targetCheck};
 ghost use Rattle.planner.specs.Answer.{outcome, stepsFor, answerTarget, answerOf, leastBuffer};
@@ -24,14 +24,14 @@ ghost use Rattle.planner.specs.declared.answer.BuildFault.{BuildFault};
 pub const LEAST_BUFFER: usize = 2562;
 
 // The steps made, their record and their counts, for a buffer that is long enough.
-fn planned(cluster: &[u8], out: &mut [u8]) -> Answer
-    requires { ⌜ (clusterCheck (now cluster) ≡ ClusterCheck.Whole) × (leastBuffer ≤ length (now out)) ⌝ }
-    ensures { λ r. ⌜ Answers (now (cluster .entry)) (outcome (roomOf (now (cluster .entry))) (stepsFor (roomOf (now (cluster .entry))))) (now (out .entry)) (now (out .exit)) r ⌝ }
+fn planned(reserve: u64, cluster: &[u8], out: &mut [u8]) -> Answer
+    requires { ⌜ (clusterCheck (now cluster) ≡ ClusterCheck.Whole) × (reserve ≤ mostReserve) × (leastBuffer ≤ length (now out)) ⌝ }
+    ensures { λ r. ⌜ Answers reserve (now (cluster .entry)) (outcome (roomAt reserve (now (cluster .entry))) (stepsFor (roomAt reserve (now (cluster .entry))))) (now (out .entry)) (now (out .exit)) r ⌝ }
 {
     let allow = rules::allow_table(cluster);
     let mut pairs = [0u8; PAIRS];
     pair_table(cluster, &mut pairs);
-    let trail = write_steps(cluster, &allow, &pairs, out);
+    let trail = write_steps(reserve, cluster, &allow, &pairs, out);
     let end = trail.end;
     records::finish_plan(out, end, trail.steps);
     let made = Made {
@@ -47,29 +47,32 @@ fn planned(cluster: &[u8], out: &mut [u8]) -> Answer
 }
 
 // From the target on.
-fn plan_target(cluster: &[u8], out: &mut [u8]) -> Answer
-    requires { ⌜ clusterCheck (now cluster) ≡ ClusterCheck.Whole ⌝ }
-    ensures { λ r. ⌜ Answers (now (cluster .entry)) (answerTarget (targetCheck (roomOf (now (cluster .entry)))) (pick (ltb (length (now (out .entry))) leastBuffer) (Answer.Refused BuildFault.Buffer) (outcome (roomOf (now (cluster .entry))) (stepsFor (roomOf (now (cluster .entry))))))) (now (out .entry)) (now (out .exit)) r ⌝ }
+fn plan_target(reserve: u64, cluster: &[u8], out: &mut [u8]) -> Answer
+    requires { ⌜ (clusterCheck (now cluster) ≡ ClusterCheck.Whole) × (reserve ≤ mostReserve) ⌝ }
+    ensures { λ r. ⌜ Answers reserve (now (cluster .entry)) (answerTarget (targetCheck (roomAt reserve (now (cluster .entry)))) (pick (ltb (length (now (out .entry))) leastBuffer) (Answer.Refused BuildFault.Buffer) (outcome (roomAt reserve (now (cluster .entry))) (stepsFor (roomAt reserve (now (cluster .entry))))))) (now (out .entry)) (now (out .exit)) r ⌝ }
 {
-    let found = rules::target_check(cluster);
+    let found = rules::target_check(reserve, cluster);
     match found {
         TargetCheck::Bad(f) => Answer::Refused(BuildFault::Target(f)),
         TargetCheck::Good => {
             if out.len() < LEAST_BUFFER {
                 return Answer::Refused(BuildFault::Buffer);
             }
-            planned(cluster, out)
+            planned(reserve, cluster, out)
         }
     }
 }
 
-// The answer to a cluster record, and the steps it speaks of as a record at the buffer's front.
-pub fn answer_to(cluster: &[u8], out: &mut [u8]) -> Answer
-    ensures { λ r. ⌜ Answers (now (cluster .entry)) (answerOf (now (cluster .entry)) (length (now (out .entry)))) (now (out .entry)) (now (out .exit)) r ⌝ }
+// The answer to a cluster record at a reserve, and the steps it speaks of as a record at the buffer's front.
+pub fn answer_to(reserve: u64, cluster: &[u8], out: &mut [u8]) -> Answer
+    ensures { λ r. ⌜ Answers reserve (now (cluster .entry)) (answerOf reserve (now (cluster .entry)) (length (now (out .entry)))) (now (out .entry)) (now (out .exit)) r ⌝ }
 {
+    if records::MOST_RESERVE < reserve {
+        return Answer::Refused(BuildFault::Reserve);
+    }
     let found = records::cluster_check(cluster);
     match found {
         ClusterCheck::Damaged(f) => Answer::Refused(BuildFault::Cluster(f)),
-        ClusterCheck::Whole => plan_target(cluster, out),
+        ClusterCheck::Whole => plan_target(reserve, cluster, out),
     }
 }

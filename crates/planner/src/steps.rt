@@ -11,7 +11,7 @@ ghost use mathlib.Core.Bool.{true};
 ghost use Prim.Native.Nat.{_+_, _*_, _≤_, _<_};
 ghost use lib.ListN.{length};
 ghost use lib.Dec.{ltb};
-ghost use Rattle.records.specs.Room.{roomOf, clusterCheck};
+ghost use Rattle.records.specs.Room.{mostReserve, roomAt, clusterCheck};
 ghost use Rattle.records.specs.Plan.{movesBytes, written, writtenWidth};
 ghost use Rattle.records.specs.declared.faults.ClusterCheck.{ClusterCheck};
 ghost use Rattle.rules.specs.Moments.{after};
@@ -37,19 +37,20 @@ fn has_moves(dests: &Destinations, n: usize) -> bool
 
 // The next step from a placement copied for it: the direct step, or if that has no move the pivot.
 fn next_step(
+    reserve: u64,
     cluster: &[u8],
     allow: &AllowTable,
     pairs: &PairTable,
     places: Placement,
 ) -> Destinations
-    requires { ⌜ (clusterCheck (now cluster) ≡ ClusterCheck.Whole) × Allows (now cluster) (now allow) × Pairs (now cluster) (now pairs) × Placed (now cluster) places ⌝ }
-    ensures { λ r. ⌜ r ≡ destsFrom (nextStep (roomOf (now (cluster .entry))) (held (now (cluster .entry)) places)) ⌝ }
+    requires { ⌜ (clusterCheck (now cluster) ≡ ClusterCheck.Whole) × (reserve ≤ mostReserve) × Allows (now cluster) (now allow) × Pairs (now cluster) (now pairs) × Placed (now cluster) places ⌝ }
+    ensures { λ r. ⌜ r ≡ destsFrom (nextStep (roomAt reserve (now (cluster .entry))) (held (now (cluster .entry)) places)) ⌝ }
 {
-    let dests = direct_step(cluster, allow, pairs, &places);
+    let dests = direct_step(reserve, cluster, allow, pairs, &places);
     if has_moves(&dests, records::vm_count(cluster)) {
         return dests;
     }
-    pivot_step(cluster, allow, pairs, places)
+    pivot_step(reserve, cluster, allow, pairs, places)
 }
 
 // Puts VM v's move, if it has one, as move n of the step at a place, with its source, and tells how many moves there are then.
@@ -115,9 +116,15 @@ pub struct Trail {
 }
 
 // The steps from the current placement, behind the place of the header, until there is no next one.
-pub fn write_steps(cluster: &[u8], allow: &AllowTable, pairs: &PairTable, out: &mut [u8]) -> Trail
-    requires { ⌜ (clusterCheck (now cluster) ≡ ClusterCheck.Whole) × Allows (now cluster) (now allow) × Pairs (now cluster) (now pairs) × (leastBuffer ≤ length (now out)) ⌝ }
-    ensures { λ r. ⌜ Trailed (now (cluster .entry)) (now (out .entry)) (now (out .exit)) r ⌝ }
+pub fn write_steps(
+    reserve: u64,
+    cluster: &[u8],
+    allow: &AllowTable,
+    pairs: &PairTable,
+    out: &mut [u8],
+) -> Trail
+    requires { ⌜ (clusterCheck (now cluster) ≡ ClusterCheck.Whole) × (reserve ≤ mostReserve) × Allows (now cluster) (now allow) × Pairs (now cluster) (now pairs) × (leastBuffer ≤ length (now out)) ⌝ }
+    ensures { λ r. ⌜ Trailed reserve (now (cluster .entry)) (now (out .entry)) (now (out .exit)) r ⌝ }
 {
     let vms = records::vm_count(cluster);
     let mut places = rules::current_places(cluster);
@@ -125,7 +132,7 @@ pub fn write_steps(cluster: &[u8], allow: &AllowTable, pairs: &PairTable, out: &
     let mut steps: usize = 0;
     let mut moves: usize = 0;
     loop {
-        let dests = next_step(cluster, allow, pairs, places);
+        let dests = next_step(reserve, cluster, allow, pairs, places);
         if !has_moves(&dests, vms) {
             break;
         }

@@ -5,6 +5,7 @@ pub mod Groups
 pub mod Constraints
 pub mod Rows
 pub mod Parts
+pub mod Reserve
 pub mod Cluster
 pub mod Steps
 pub mod Written

@@ -1,5 +1,5 @@
 -- The cluster record (01, "The two records" and refusals 1 to 7): the room that bytes stand for, and what makes them damaged.
-use Prim.Native.Nat.{ℕ, zero, suc, _+_, _*_}
+use Prim.Native.Nat.{ℕ, zero, suc, _+_, _-_, _*_, _/_}
 use mathlib.Core.Bool.{Bool, true, false, not, _&&_, _||_}
 use mathlib.Core.List.{List, [], _∷_, map}
 use mathlib.Core.Path.{_≡_}
@@ -60,6 +60,26 @@ nodeOf room d = getD (room .nodes) d noNode
 
 unfoldable pub vmOf : Room → ℕ → Vm
 vmOf room v = getD (room .vms) v noVm
+
+-- ---- a share of each node that is kept free (02, Job 5)
+
+-- the most that can be kept, in percent
+abbrev pub mostReserve : ℕ
+mostReserve = 90
+
+-- what is usable of an amount when so many percent of it are kept, rounded down
+unfoldable pub usable : ℕ → ℕ → ℕ
+usable reserve amount = amount * (100 - reserve) / 100
+
+-- a node with its usable memory and its usable CPU, each rounded by itself
+unfoldable pub usableNode : ℕ → Node → Node
+usableNode reserve node = record { memory = usable reserve (node .memory); cpu = usable reserve (node .cpu) }
+
+-- a room at a reserve: what a node has is what is usable of it; VMs and constraints are the same
+unfoldable pub atReserve : ℕ → Room → Room
+atReserve reserve room = record { nodes = map (usableNode reserve) (room .nodes); vms = room .vms; constraints = room .constraints }
+
+-- ---- constraints
 
 -- a constraint's kind, VMs, nodes and groups
 unfoldable pub kindOf : Constraint → Kind
@@ -194,6 +214,10 @@ roomOf s =
       vms = rows (vmRow s) 7 (vmsStart s) (vmCount s);
       constraints = map constraintOf (partsOf s);
     }
+
+-- the same at a reserve: the room that a call goes by
+abbrev pub roomAt : ℕ → List ℕ → Room
+roomAt reserve s = atReserve reserve (roomOf s)
 
 -- ---- what makes a record damaged
 

@@ -23,6 +23,7 @@ pub use faults::plan_number;
 
 // A cluster record.
 pub use cluster::cluster_check;
+pub use room::MOST_RESERVE;
 pub use room::NOWHERE;
 pub use room::constraint_count;
 pub use room::first_constraint;

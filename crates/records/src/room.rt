@@ -9,9 +9,9 @@ use crate::header::nodes;
 use crate::header::vms;
 ghost use mathlib.Core.Path.{_≡_};
 ghost use mathlib.Core.Bool.{true};
-ghost use Prim.Native.Nat.{_+_, _*_, _≤_, _<_, _^_};
+ghost use Prim.Native.Nat.{_+_, _*_, _/_, _≤_, _<_, _^_};
 ghost use lib.ListN.{length};
-ghost use Rattle.records.specs.Room.{nodeCount, vmCount, constraintCount, vmsStart, constraintsStart, roomOf, nodeOf, vmOf, knowsNowhere, placeOk, clusterCheck};
+ghost use Rattle.records.specs.Room.{nodeCount, vmCount, constraintCount, vmsStart, constraintsStart, roomOf, roomAt, nodeOf, vmOf, mostReserve, usable, knowsNowhere, placeOk, clusterCheck};
 ghost use Rattle.records.specs.declared.faults.ClusterCheck.{ClusterCheck};
 
 pub fn node_count(s: &[u8]) -> usize
@@ -59,18 +59,39 @@ fn vm_row(s: &[u8], v: usize) -> usize
     vms_start(s) + v * 7
 }
 
-pub fn node_memory(s: &[u8], d: usize) -> u32
-    requires { ⌜ (clusterCheck (now s) ≡ ClusterCheck.Whole) × (d < nodeCount (now s)) ⌝ }
-    ensures { λ r. ⌜ (r ≡ nodeOf (roomOf (now (s .entry))) d .memory) × (r < 2 ^ 24) ⌝ }
+// The most percent of each node that can be kept free.
+pub const MOST_RESERVE: u64 = 90;
+
+// A hundredth of a number, rounded down.
+fn hundredth(n: u64) -> u64
+    requires { ⌜ n < 2 ^ 32 ⌝ }
+    ensures { λ r. ⌜ r ≡ n / 100 ⌝ }
 {
-    be24(s, node_row(s, d))
+    n / 100
 }
 
-pub fn node_cpu(s: &[u8], d: usize) -> u32
-    requires { ⌜ (clusterCheck (now s) ≡ ClusterCheck.Whole) × (d < nodeCount (now s)) ⌝ }
-    ensures { λ r. ⌜ (r ≡ nodeOf (roomOf (now (s .entry))) d .cpu) × (r < 2 ^ 16) ⌝ }
+// What is usable of an amount when so many percent of it are kept, rounded down.
+fn usable_of(reserve: u64, amount: u64) -> u64
+    requires { ⌜ (reserve ≤ mostReserve) × (amount < 2 ^ 24) ⌝ }
+    ensures { λ r. ⌜ r ≡ usable reserve amount ⌝ }
 {
-    be16(s, node_row(s, d) + 3)
+    hundredth(amount * (100 - reserve))
+}
+
+// The usable memory of node d.
+pub fn node_memory(reserve: u64, s: &[u8], d: usize) -> u64
+    requires { ⌜ (clusterCheck (now s) ≡ ClusterCheck.Whole) × (reserve ≤ mostReserve) × (d < nodeCount (now s)) ⌝ }
+    ensures { λ r. ⌜ r ≡ nodeOf (roomAt reserve (now (s .entry))) d .memory ⌝ }
+{
+    usable_of(reserve, be24(s, node_row(s, d)) as u64)
+}
+
+// The usable CPU of node d.
+pub fn node_cpu(reserve: u64, s: &[u8], d: usize) -> u64
+    requires { ⌜ (clusterCheck (now s) ≡ ClusterCheck.Whole) × (reserve ≤ mostReserve) × (d < nodeCount (now s)) ⌝ }
+    ensures { λ r. ⌜ r ≡ nodeOf (roomAt reserve (now (s .entry))) d .cpu ⌝ }
+{
+    usable_of(reserve, be16(s, node_row(s, d) + 3) as u64)
 }
 
 pub fn vm_memory(s: &[u8], v: usize) -> u32

@@ -1,5 +1,6 @@
 -- The laws by topic.
 pub mod Bears
+pub mod Reserve
 pub mod Orders
 pub mod Sound
 pub mod Runs
@@ -9,6 +10,7 @@ pub mod Sources
 pub mod Returned
 pub mod Verdicts
 pub mod Contract
+pub mod Stricter
 pub mod Tables
 pub mod Places
 pub mod Named

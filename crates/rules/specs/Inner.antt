@@ -6,7 +6,7 @@ use mathlib.Core.Path.{_≡_}
 use lib.ListN.{length, getD, set, take, drop, replicate}
 use lib.Dec.{ltb, eqb}
 use Rattle.records.specs.Base.{pick, all, sumOf}
-use Rattle.records.specs.Room.{Constraint, ban, fence, spread, latency, Room, vmOf, nodeOf, roomOf, nodeCount, vmCount, nodesOf, groupsOf, placeOk, listOk, groupsFrom, groupsEnd, constraintOf, filled, clusterCheck}
+use Rattle.records.specs.Room.{Constraint, ban, fence, spread, latency, Room, vmOf, nodeOf, roomOf, roomAt, nodeCount, vmCount, nodesOf, groupsOf, placeOk, listOk, groupsFrom, groupsEnd, constraintOf, filled, clusterCheck}
 use Rattle.records.specs.Inner.{Below, Steps}
 use Rattle.records.specs.Plan.{Move, Step, moveOf, stepAt, stepEnd, stepsFrom, stepsOf}
 use Rattle.records.specs.declared.faults.ClusterCheck.{ClusterCheck}
@@ -228,8 +228,8 @@ stepOf (Verdict.Accepted cost) = 0
 stepOf (Verdict.Refused fault) = faultStep fault
 
 -- the checker before the last n steps: where they start, where the VMs are, the number of the next, and what is still due
-pub record Walking (s plan places : List ℕ) (at n number : ℕ) : Type 0 where
+pub record Walking (reserve : ℕ) (s plan places : List ℕ) (at n number : ℕ) : Type 0 where
   pub steps : Steps plan at n
   pub placed : Placed s places
   pub count : number + n ≤ 513
-  pub verdict : stepsVerdict (roomOf s) (Verdict.Accepted (costOf (roomOf s) (stepsOf plan))) (held s places) number (stepsFrom plan at n) ≡ planVerdict (roomOf s) (stepsOf plan)
+  pub verdict : stepsVerdict (roomAt reserve s) (Verdict.Accepted (costOf (roomAt reserve s) (stepsOf plan))) (held s places) number (stepsFrom plan at n) ≡ planVerdict (roomAt reserve s) (stepsOf plan)

@@ -6,7 +6,7 @@ use mathlib.Core.Logic.{_↔_, _⊎_}
 use mathlib.Core.Path.{_≡_}
 use lib.ListN.{length, getD, take}
 use Rattle.records.specs.Bytes.{versionOf}
-use Rattle.records.specs.Room.{Room, nodeOf, vmOf, nowhere, roomOf, clusterCheck}
+use Rattle.records.specs.Room.{Room, nodeOf, vmOf, nowhere, mostReserve, roomAt, clusterCheck}
 use Rattle.records.specs.Plan.{Move, Step, withSources, moveOf, stepsOf, planCheck, headerBytes}
 use Rattle.records.specs.declared.plan.Source.{Source}
 use Rattle.records.specs.declared.plan.Source.the-variants.{Named}
@@ -41,10 +41,11 @@ unfoldable pub soundAll : Room → Placement → List Step → Bool
 soundAll room places [] = true
 soundAll room places (step ∷ steps) = soundStep room places step && soundAll room (after places step) steps
 
--- none of the faults 1 to 9 and 11 to 14
-pub record Shaped (cluster plan : List ℕ) : Type 0 where
+-- none of the faults 23, 1 to 9 and 11 to 14
+pub record Shaped (reserve : ℕ) (cluster plan : List ℕ) : Type 0 where
+  pub reserve-taken : reserve ≤ mostReserve
   pub cluster-whole : clusterCheck cluster ≡ ClusterCheck.Whole
-  pub target-good : targetCheck (roomOf cluster) ≡ TargetCheck.Good
+  pub target-good : targetCheck (roomAt reserve cluster) ≡ TargetCheck.Good
   pub plan-whole : planCheck plan ≡ PlanCheck.Whole
 
 -- what the rules ask of a begin: it fits, meets no mate, and its destination is allowed
@@ -191,50 +192,53 @@ pub record NothingDown (room : Room) : Type 0 where
 
 -- ---- the promises
 
--- a number tells a verdict: taken apart it says accepted and the cost, or refused with 01's number and step; what does not apply reads 0
+-- a number tells a verdict: taken apart it says accepted and the cost, or refused with the documents' number and step; what does not apply reads 0
 abbrev pub TellsVerdict : ℕ → Verdict → Type 0
 TellsVerdict r (Verdict.Accepted cost) = SaysGood r × (toldCost r ≡ cost) × (toldNumber r ≡ 0) × (toldStep r ≡ 0)
 TellsVerdict r (Verdict.Refused fault) = SaysRefused r (faultNumber fault) (faultStep fault) × (toldCost r ≡ 0)
 
--- a field each, on any two byte strings and the number returned
-pub record Checked (cluster plan : List ℕ) (r : ℕ) : Type 0 where
+-- a field each, on any reserve, any two byte strings and the number returned. What a node has is, in all of them, what is usable of it at the
+-- reserve (02, Job 5)
+pub record Checked (reserve : ℕ) (cluster plan : List ℕ) (r : ℕ) : Type 0 where
   -- it is the verdict's, and tells it
-  pub is : r ≡ packed (verdictOf cluster plan)
-  pub told : TellsVerdict r (verdictOf cluster plan)
-  -- with none of the faults 1 to 9, 11 to 15 and 27: accepted exactly if every run obeys the rules and ends on the target
-  pub exact : Shaped cluster plan → namedAll (roomOf cluster) (currentOf (roomOf cluster)) (stepsOf plan) ≡ true →
-      sourcedAll (currentOf (roomOf cluster)) (stepsOf plan) ≡ true →
-      SaysGood r ↔ EveryRun (roomOf cluster) (currentOf (roomOf cluster)) (stepsOf plan)
+  pub is : r ≡ packed (verdictOf reserve cluster plan)
+  pub told : TellsVerdict r (verdictOf reserve cluster plan)
+  -- 23 exactly if more than 90 percent are to be kept, whatever the records are
+  pub reserved : SaysRefused r 23 0 ↔ (mostReserve < reserve)
+  -- with none of the faults 23, 1 to 9, 11 to 15 and 27: accepted exactly if every run obeys the rules and ends on the target
+  pub exact : Shaped reserve cluster plan → namedAll (roomAt reserve cluster) (currentOf (roomAt reserve cluster)) (stepsOf plan) ≡ true →
+      sourcedAll (currentOf (roomAt reserve cluster)) (stepsOf plan) ≡ true →
+      SaysGood r ↔ EveryRun (roomAt reserve cluster) (currentOf (roomAt reserve cluster)) (stepsOf plan)
   -- and nothing else is accepted
-  pub only : SaysGood r → Shaped cluster plan × (namedAll (roomOf cluster) (currentOf (roomOf cluster)) (stepsOf plan) ≡ true) ×
-      (sourcedAll (currentOf (roomOf cluster)) (stepsOf plan) ≡ true)
+  pub only : SaysGood r → Shaped reserve cluster plan × (namedAll (roomAt reserve cluster) (currentOf (roomAt reserve cluster)) (stepsOf plan) ≡ true) ×
+      (sourcedAll (currentOf (roomAt reserve cluster)) (stepsOf plan) ≡ true)
   -- 15 to 19 and 27 mean what they say
   pub misnamed : (n : ℕ) → SaysRefused r 15 (suc n) ↔
-      (Shaped cluster plan × FirstAtFault (roomOf cluster) (currentOf (roomOf cluster)) (stepsOf plan) n (FaultNames (roomOf cluster)))
+      (Shaped reserve cluster plan × FirstAtFault (roomAt reserve cluster) (currentOf (roomAt reserve cluster)) (stepsOf plan) n (FaultNames (roomAt reserve cluster)))
   pub elsewhere : (n : ℕ) → SaysRefused r 27 (suc n) ↔
-      (Shaped cluster plan × FirstAtFault (roomOf cluster) (currentOf (roomOf cluster)) (stepsOf plan) n (FaultSource (roomOf cluster)))
+      (Shaped reserve cluster plan × FirstAtFault (roomAt reserve cluster) (currentOf (roomAt reserve cluster)) (stepsOf plan) n (FaultSource (roomAt reserve cluster)))
   pub forbidden : (n : ℕ) → SaysRefused r 16 (suc n) ↔
-      (Shaped cluster plan × FirstAtFault (roomOf cluster) (currentOf (roomOf cluster)) (stepsOf plan) n (FaultDestination (roomOf cluster)))
+      (Shaped reserve cluster plan × FirstAtFault (roomAt reserve cluster) (currentOf (roomAt reserve cluster)) (stepsOf plan) n (FaultDestination (roomAt reserve cluster)))
   pub misfit : (n : ℕ) → SaysRefused r 17 (suc n) ↔
-      (Shaped cluster plan × FirstAtFault (roomOf cluster) (currentOf (roomOf cluster)) (stepsOf plan) n (FaultFit (roomOf cluster)))
+      (Shaped reserve cluster plan × FirstAtFault (roomAt reserve cluster) (currentOf (roomAt reserve cluster)) (stepsOf plan) n (FaultFit (roomAt reserve cluster)))
   pub mate : (n : ℕ) → SaysRefused r 18 (suc n) ↔
-      (Shaped cluster plan × FirstAtFault (roomOf cluster) (currentOf (roomOf cluster)) (stepsOf plan) n (FaultMate (roomOf cluster)))
-  pub off-target : SaysRefused r 19 0 ↔ (Shaped cluster plan × EndsAway (roomOf cluster) (currentOf (roomOf cluster)) (stepsOf plan))
+      (Shaped reserve cluster plan × FirstAtFault (roomAt reserve cluster) (currentOf (roomAt reserve cluster)) (stepsOf plan) n (FaultMate (roomAt reserve cluster)))
+  pub off-target : SaysRefused r 19 0 ↔ (Shaped reserve cluster plan × EndsAway (roomAt reserve cluster) (currentOf (roomAt reserve cluster)) (stepsOf plan))
   -- an accepted plan costs what Entropy estimates, which is below 2 to the 43
-  pub cost : SaysGood r → toldCost r ≡ costOf (roomOf cluster) (stepsOf plan)
+  pub cost : SaysGood r → toldCost r ≡ costOf (roomAt reserve cluster) (stepsOf plan)
   pub below : SaysGood r → toldCost r < 2 ^ 43
   -- no run of it takes a node past what it has, or adds CPU to one that is past it, or brings mates together
-  pub auditor : SaysGood r → StaysWithin (roomOf cluster) (currentOf (roomOf cluster)) (stepsOf plan)
-  pub apart : SaysGood r → StaysApart (roomOf cluster) (currentOf (roomOf cluster)) (stepsOf plan)
+  pub auditor : SaysGood r → StaysWithin (roomAt reserve cluster) (currentOf (roomAt reserve cluster)) (stepsOf plan)
+  pub apart : SaysGood r → StaysApart (roomAt reserve cluster) (currentOf (roomAt reserve cluster)) (stepsOf plan)
   -- nor takes a VM down that is wanted on a node; in a cluster of version 1 nobody is down or is to be, and a shutdown is 15 (02, Job 2)
-  pub running : SaysGood r → KeepsRunning (roomOf cluster) (currentOf (roomOf cluster)) (stepsOf plan)
-  pub version-1 : clusterCheck cluster ≡ ClusterCheck.Whole → versionOf cluster ≡ 1 → NothingDown (roomOf cluster)
+  pub running : SaysGood r → KeepsRunning (roomAt reserve cluster) (currentOf (roomAt reserve cluster)) (stepsOf plan)
+  pub version-1 : clusterCheck cluster ≡ ClusterCheck.Whole → versionOf cluster ≡ 1 → NothingDown (roomAt reserve cluster)
   -- an accepted plan of version 2 names for every move the place of its VM when the step starts; nothing but 27 looks at a source; a
   -- plan that is not of version 2 has no step with 27 (02, Job 7)
-  pub sources : SaysGood r → versionOf plan ≡ 2 → NamesPlaces (roomOf cluster) (currentOf (roomOf cluster)) (stepsOf plan)
-  pub unread : SourcesUnread (roomOf cluster)
-  pub unasked : (versionOf plan ≡ 2 → ⊥) → (sourcedAll (currentOf (roomOf cluster)) (stepsOf plan) ≡ true) × ((n : ℕ) → SaysRefused r 27 n → ⊥)
+  pub sources : SaysGood r → versionOf plan ≡ 2 → NamesPlaces (roomAt reserve cluster) (currentOf (roomAt reserve cluster)) (stepsOf plan)
+  pub unread : SourcesUnread (roomAt reserve cluster)
+  pub unasked : (versionOf plan ≡ 2 → ⊥) → (sourcedAll (currentOf (roomAt reserve cluster)) (stepsOf plan) ≡ true) × ((n : ℕ) → SaysRefused r 27 n → ⊥)
   -- 0 bytes get the verdict that a header with 0 steps gets, of either version (02, Jobs 7 and 8)
-  pub empty : plan ≡ [] → (version : ℕ) → (version ≡ 1) ⊎ (version ≡ 2) → verdictOf cluster plan ≡ verdictOf cluster (headerBytes version 7 0)
+  pub empty : plan ≡ [] → (version : ℕ) → (version ≡ 1) ⊎ (version ≡ 2) → verdictOf reserve cluster plan ≡ verdictOf reserve cluster (headerBytes version 7 0)
   -- sound, wherever it is said here, is sound in every order
-  pub sound : (places : Placement) (step : Step) → (soundStep (roomOf cluster) places step ≡ true) ↔ SoundInOrders (roomOf cluster) places step
+  pub sound : (places : Placement) (step : Step) → (soundStep (roomAt reserve cluster) places step ≡ true) ↔ SoundInOrders (roomAt reserve cluster) places step

@@ -1,11 +1,11 @@
--- The verdict on a plan: the whole checking order, the numbers of the refusals, and the packing (01, "Numbers of the refusals").
+-- The verdict on a plan: the whole checking order, the numbers of the refusals, and the packing (01, "Numbers of the refusals"; 02, Jobs 5 and 7).
 use Prim.Native.Nat.{ℕ, zero, suc, _+_, _*_, _^_}
 use mathlib.Core.Bool.{Bool, true, false, not, _&&_}
 use mathlib.Core.List.{List, [], _∷_}
 use lib.ListN.{length}
-use lib.Dec.{eqb}
+use lib.Dec.{ltb, eqb}
 use Rattle.records.specs.Base.{pick, all}
-use Rattle.records.specs.Room.{Room, roomOf, clusterCheck, clusterNumber}
+use Rattle.records.specs.Room.{Room, mostReserve, roomAt, clusterCheck, clusterNumber}
 use Rattle.records.specs.Plan.{Step, stepsOf, planCheck, planNumber}
 use Rattle.records.specs.declared.faults.ClusterCheck.{ClusterCheck}
 use Rattle.records.specs.declared.faults.PlanCheck.{PlanCheck}
@@ -17,7 +17,7 @@ use Rattle.rules.specs.declared.faults.TargetCheck.{TargetCheck}
 use Rattle.rules.specs.declared.faults.StepFault.{StepFault}
 use Rattle.rules.specs.declared.faults.StepCheck.{StepCheck}
 use Rattle.rules.specs.declared.faults.Fault.{Fault}
-use Rattle.rules.specs.declared.faults.Fault.the-variants.{Cluster, Target, Plan, Step as AtStep, OffTarget}
+use Rattle.rules.specs.declared.faults.Fault.the-variants.{Reserve, Cluster, Target, Plan, Step as AtStep, OffTarget}
 use Rattle.rules.specs.declared.faults.Verdict.{Verdict}
 use Rattle.rules.specs.declared.faults.Verdict.the-variants.{Accepted, Refused}
 
@@ -26,6 +26,9 @@ unfoldable pub home : Room → Placement → Bool
 home room places = all (λ v. eqb (placeOf places v) (placeOf (targetOf room) v)) (from 0 (length (room .vms)))
 
 -- what each check says, and what follows if it finds nothing
+unfoldable pub onReserve : ℕ → Verdict → Verdict
+onReserve reserve rest = pick (ltb mostReserve reserve) (Refused Reserve) rest
+
 unfoldable pub onCluster : ClusterCheck → Verdict → Verdict
 onCluster ClusterCheck.Whole rest = rest
 onCluster (ClusterCheck.Damaged fault) rest = Refused (Cluster fault)
@@ -53,15 +56,16 @@ stepsVerdict room good places number (step ∷ steps) =
 unfoldable pub planVerdict : Room → List Step → Verdict
 planVerdict room steps = stepsVerdict room (Accepted (costOf room steps)) (currentOf room) 1 steps
 
--- the whole checking order: 1 to 7, 8 and 9, 11 to 14, then the steps
-unfoldable pub verdictOf : List ℕ → List ℕ → Verdict
-verdictOf cluster plan =
-    onCluster (clusterCheck cluster)
-    (onTarget (targetCheck (roomOf cluster))
+-- the whole checking order at a reserve: 23 (02, Job 5), 1 to 7, 8 and 9, 11 to 14, then the steps
+unfoldable pub verdictOf : ℕ → List ℕ → List ℕ → Verdict
+verdictOf reserve cluster plan =
+    onReserve reserve
+    (onCluster (clusterCheck cluster)
+    (onTarget (targetCheck (roomAt reserve cluster))
     (onPlan (planCheck plan)
-    (planVerdict (roomOf cluster) (stepsOf plan))))
+    (planVerdict (roomAt reserve cluster) (stepsOf plan)))))
 
--- 01's number of each fault, and the step that goes with it (a fault of no step: 0)
+-- the documents' number of each fault, and the step that goes with it (a fault of no step: 0)
 abbrev pub targetNumber : TargetFault → ℕ
 targetNumber TargetFault.Overfull = 8
 targetNumber TargetFault.Broken = 9
@@ -74,6 +78,7 @@ stepNumber StepFault.Misfit = 17
 stepNumber StepFault.Mate = 18
 
 abbrev pub faultNumber : Fault → ℕ
+faultNumber Reserve = 23
 faultNumber (Cluster fault) = clusterNumber fault
 faultNumber (Target fault) = targetNumber fault
 faultNumber (Plan fault) = planNumber fault
@@ -81,6 +86,7 @@ faultNumber (AtStep fault step) = stepNumber fault
 faultNumber OffTarget = 19
 
 abbrev pub faultStep : Fault → ℕ
+faultStep Reserve = 0
 faultStep (Cluster fault) = 0
 faultStep (Target fault) = 0
 faultStep (Plan fault) = 0

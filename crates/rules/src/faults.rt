@@ -1,4 +1,4 @@
-// What can be wrong with a target, a step or a plan, by name, and document 01's number and step of it.
+// What can be wrong with a reserve, a target, a step or a plan, by name, and the documents' number and step of it.
 use records::ClusterFault;
 use records::PlanFault;
 ghost use mathlib.Core.Path.{_≡_};
@@ -29,8 +29,9 @@ pub enum StepCheck {
     Faulty(StepFault),
 }
 
-// A fault of the cluster record, its target, the plan record, one of its steps (with its number), or its end.
+// A reserve that is too large, or a fault of the cluster record, its target, the plan record, one of its steps (with its number), or its end.
 pub enum Fault {
+    Reserve,
     Cluster(ClusterFault),
     Target(TargetFault),
     Plan(PlanFault),
@@ -68,6 +69,7 @@ pub fn fault_number(f: Fault) -> u64
     ensures { λ r. ⌜ (r ≡ faultNumber f) × (r < 256) ⌝ }
 {
     match f {
+        Fault::Reserve => 23,
         Fault::Cluster(c) => records::cluster_number(c),
         Fault::Target(t) => target_number(t),
         Fault::Plan(p) => records::plan_number(p),
@@ -81,6 +83,7 @@ pub fn fault_step(f: Fault) -> usize
 {
     match f {
         Fault::Step(_, n) => n,
+        Fault::Reserve => 0,
         Fault::Cluster(_) => 0,
         Fault::Target(_) => 0,
         Fault::Plan(_) => 0,

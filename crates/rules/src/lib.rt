@@ -54,11 +54,11 @@ pub use places::wide;
 pub use wanted::at_home;
 pub use wanted::target_check;
 
-// The verdict on a plan for a cluster, on any two byte strings: an accepted plan's cost, or a refusal with bit 63 set, its number
-// from bit 16 on and its step below that. `Checked` lists what is promised of it.
+// The verdict on a plan for a cluster, with so many percent of each node kept free, on any number and any two byte strings: an accepted
+// plan's cost, or a refusal with bit 63 set, its number from bit 16 on and its step below that. `Checked` lists what is promised of it.
 #[no_mangle]
-pub extern "C" fn check(cluster: &[u8], plan: &[u8]) -> u64
-    ensures { λ r. ⌜ Checked (now (cluster .entry)) (now (plan .entry)) r ⌝ }
+pub extern "C" fn check(reserve: u64, cluster: &[u8], plan: &[u8]) -> u64
+    ensures { λ r. ⌜ Checked reserve (now (cluster .entry)) (now (plan .entry)) r ⌝ }
 {
-    verdict::pack(verdict_on(cluster, plan))
+    verdict::pack(verdict_on(reserve, cluster, plan))
 }

@@ -18,7 +18,7 @@ use records::Source;
 ghost use mathlib.Core.Path.{_≡_};
 ghost use Prim.Native.Nat.{_≤_, _<_};
 ghost use lib.ListN.{length};
-ghost use Rattle.records.specs.Room.{roomOf, nodeCount, vmCount, clusterCheck};
+ghost use Rattle.records.specs.Room.{mostReserve, roomOf, roomAt, nodeCount, vmCount, clusterCheck};
 ghost use Rattle.records.specs.Plan.{moveOf, moveCount, stepAt, stepEnd};
 ghost use Rattle.records.specs.declared.faults.ClusterCheck.{ClusterCheck};
 ghost use Rattle.rules.specs.Rules.{aims, named, isPlace, sourced, permitted, stepCheck};
@@ -120,29 +120,29 @@ pub fn loads(cluster: &[u8], places: &Placement, dests: &Destinations) -> Sums
 }
 
 // Whether move i of a step fits where it goes, `here` being what counts there with every move running: to no node it always does.
-fn borne(cluster: &[u8], plan: &[u8], at: usize, i: usize, here: Tally) -> bool
-    requires { ⌜ (clusterCheck (now cluster) ≡ ClusterCheck.Whole) × (stepEnd (now plan) at ≤ length (now plan)) × Aimed (now cluster) (stepAt (now plan) at) × (i < moveCount (now plan) at) ⌝ }
-    ensures { λ r. ⌜ r ≡ borneIn (roomOf (now (cluster .entry))) here (moveOf (stepAt (now (plan .entry)) at) i) ⌝ }
+fn borne(reserve: u64, cluster: &[u8], plan: &[u8], at: usize, i: usize, here: Tally) -> bool
+    requires { ⌜ (clusterCheck (now cluster) ≡ ClusterCheck.Whole) × (reserve ≤ mostReserve) × (stepEnd (now plan) at ≤ length (now plan)) × Aimed (now cluster) (stepAt (now plan) at) × (i < moveCount (now plan) at) ⌝ }
+    ensures { λ r. ⌜ r ≡ borneIn (roomAt reserve (now (cluster .entry))) here (moveOf (stepAt (now (plan .entry)) at) i) ⌝ }
 {
     let d = records::move_to(plan, at, i) as usize;
     if NODES <= d {
         return true;
     }
     let v = records::move_vm(plan, at, i) as usize;
-    bears_vm(cluster, d, here, v)
+    bears_vm(reserve, cluster, d, here, v)
 }
 
 // 17: whether each node that is a destination bears its tally, with every move running, for the VM sent there.
-pub fn fits_running(cluster: &[u8], plan: &[u8], at: usize, sums: Sums) -> bool
-    requires { ⌜ (clusterCheck (now cluster) ≡ ClusterCheck.Whole) × (stepEnd (now plan) at ≤ length (now plan)) × Aimed (now cluster) (stepAt (now plan) at) ⌝ }
-    ensures { λ r. ⌜ r ≡ fitsIn (roomOf (now (cluster .entry))) sums (stepAt (now (plan .entry)) at) ⌝ }
+pub fn fits_running(reserve: u64, cluster: &[u8], plan: &[u8], at: usize, sums: Sums) -> bool
+    requires { ⌜ (clusterCheck (now cluster) ≡ ClusterCheck.Whole) × (reserve ≤ mostReserve) × (stepEnd (now plan) at ≤ length (now plan)) × Aimed (now cluster) (stepAt (now plan) at) ⌝ }
+    ensures { λ r. ⌜ r ≡ fitsIn (roomAt reserve (now (cluster .entry))) sums (stepAt (now (plan .entry)) at) ⌝ }
 {
     let n = records::move_count(plan, at);
     let mut i: usize = 0;
     while i < n {
         let d = wide(records::move_to(plan, at, i));
         let here = sums[d];
-        if !borne(cluster, plan, at, i, here) {
+        if !borne(reserve, cluster, plan, at, i, here) {
             return false;
         }
         i += 1;
@@ -171,13 +171,19 @@ pub fn moves_allowed(cluster: &[u8], plan: &[u8], at: usize, table: &AllowTable)
 }
 
 // 17 and 18, of a step that is well named and allowed.
-fn running_check(cluster: &[u8], plan: &[u8], at: usize, places: &Placement) -> StepCheck
-    requires { ⌜ Held (now cluster) (now plan) at (now places) ⌝ }
-    ensures { λ r. ⌜ r ≡ runningCheck (roomOf (now (cluster .entry))) (held (now (cluster .entry)) (now (places .entry))) (stepAt (now (plan .entry)) at) ⌝ }
+fn running_check(
+    reserve: u64,
+    cluster: &[u8],
+    plan: &[u8],
+    at: usize,
+    places: &Placement,
+) -> StepCheck
+    requires { ⌜ Held (now cluster) (now plan) at (now places) × (reserve ≤ mostReserve) ⌝ }
+    ensures { λ r. ⌜ r ≡ runningCheck (roomAt reserve (now (cluster .entry))) (held (now (cluster .entry)) (now (places .entry))) (stepAt (now (plan .entry)) at) ⌝ }
 {
     let dests = destinations(plan, at);
     let sums = loads(cluster, places, &dests);
-    if !fits_running(cluster, plan, at, sums) {
+    if !fits_running(reserve, cluster, plan, at, sums) {
         return StepCheck::Faulty(StepFault::Misfit);
     }
     if !mates_unmet(cluster, places, &dests) {
@@ -188,14 +194,15 @@ fn running_check(cluster: &[u8], plan: &[u8], at: usize, places: &Placement) -> 
 
 // The first fault of the step at a place of the plan, from a placement copied for it.
 pub fn step_check(
+    reserve: u64,
     cluster: &[u8],
     plan: &[u8],
     at: usize,
     places: Placement,
     table: &AllowTable,
 ) -> StepCheck
-    requires { ⌜ (clusterCheck (now cluster) ≡ ClusterCheck.Whole) × (stepEnd (now plan) at ≤ length (now plan)) × Allows (now cluster) (now table) × Placed (now cluster) places ⌝ }
-    ensures { λ r. ⌜ r ≡ stepCheck (roomOf (now (cluster .entry))) (held (now (cluster .entry)) places) (stepAt (now (plan .entry)) at) ⌝ }
+    requires { ⌜ (clusterCheck (now cluster) ≡ ClusterCheck.Whole) × (reserve ≤ mostReserve) × (stepEnd (now plan) at ≤ length (now plan)) × Allows (now cluster) (now table) × Placed (now cluster) places ⌝ }
+    ensures { λ r. ⌜ r ≡ stepCheck (roomAt reserve (now (cluster .entry))) (held (now (cluster .entry)) places) (stepAt (now (plan .entry)) at) ⌝ }
 {
     if !well_named(cluster, plan, at, &places) {
         return StepCheck::Faulty(StepFault::Misnamed);
@@ -206,5 +213,5 @@ pub fn step_check(
     if !moves_allowed(cluster, plan, at, table) {
         return StepCheck::Faulty(StepFault::Forbidden);
     }
-    running_check(cluster, plan, at, &places)
+    running_check(reserve, cluster, plan, at, &places)
 }

@@ -1,7 +1,7 @@
 // A node's tally: the memory and CPU of the VMs that count there.
 ghost use mathlib.Core.Path.{_≡_};
-ghost use Prim.Native.Nat.{_+_, _<_, _^_};
-ghost use Rattle.records.specs.Room.{roomOf, nodeOf, vmOf, nodeCount, vmCount, clusterCheck};
+ghost use Prim.Native.Nat.{_+_, _≤_, _<_, _^_};
+ghost use Rattle.records.specs.Room.{mostReserve, roomOf, roomAt, nodeOf, vmOf, nodeCount, vmCount, clusterCheck};
 ghost use Rattle.records.specs.declared.faults.ClusterCheck.{ClusterCheck};
 ghost use Rattle.rules.specs.Moments.{withinMemory, withinCpu, within, bears};
 ghost use Rattle.rules.specs.Inner.{NeedOf};
@@ -44,42 +44,42 @@ pub fn need_of(cluster: &[u8], v: usize) -> Need
     }
 }
 
-// Whether a tally's memory is within that of node d.
-fn within_memory(cluster: &[u8], d: usize, t: Tally) -> bool
-    requires { ⌜ (clusterCheck (now cluster) ≡ ClusterCheck.Whole) × (d < nodeCount (now cluster)) ⌝ }
-    ensures { λ r. ⌜ r ≡ withinMemory (nodeOf (roomOf (now (cluster .entry))) d) t ⌝ }
+// Whether a tally's memory is within what is usable of node d's.
+fn within_memory(reserve: u64, cluster: &[u8], d: usize, t: Tally) -> bool
+    requires { ⌜ (clusterCheck (now cluster) ≡ ClusterCheck.Whole) × (reserve ≤ mostReserve) × (d < nodeCount (now cluster)) ⌝ }
+    ensures { λ r. ⌜ r ≡ withinMemory (nodeOf (roomAt reserve (now (cluster .entry))) d) t ⌝ }
 {
-    t.memory <= records::node_memory(cluster, d) as u64
+    t.memory <= records::node_memory(reserve, cluster, d)
 }
 
-// Whether a tally's CPU is within that of node d.
-fn within_cpu(cluster: &[u8], d: usize, t: Tally) -> bool
-    requires { ⌜ (clusterCheck (now cluster) ≡ ClusterCheck.Whole) × (d < nodeCount (now cluster)) ⌝ }
-    ensures { λ r. ⌜ r ≡ withinCpu (nodeOf (roomOf (now (cluster .entry))) d) t ⌝ }
+// Whether a tally's CPU is within what is usable of node d's.
+fn within_cpu(reserve: u64, cluster: &[u8], d: usize, t: Tally) -> bool
+    requires { ⌜ (clusterCheck (now cluster) ≡ ClusterCheck.Whole) × (reserve ≤ mostReserve) × (d < nodeCount (now cluster)) ⌝ }
+    ensures { λ r. ⌜ r ≡ withinCpu (nodeOf (roomAt reserve (now (cluster .entry))) d) t ⌝ }
 {
-    t.cpu <= records::node_cpu(cluster, d) as u64
+    t.cpu <= records::node_cpu(reserve, cluster, d)
 }
 
-// Whether a tally is within what node d has.
-pub fn within_node(cluster: &[u8], d: usize, t: Tally) -> bool
-    requires { ⌜ (clusterCheck (now cluster) ≡ ClusterCheck.Whole) × (d < nodeCount (now cluster)) ⌝ }
-    ensures { λ r. ⌜ r ≡ within (nodeOf (roomOf (now (cluster .entry))) d) t ⌝ }
+// Whether a tally is within what is usable of node d.
+pub fn within_node(reserve: u64, cluster: &[u8], d: usize, t: Tally) -> bool
+    requires { ⌜ (clusterCheck (now cluster) ≡ ClusterCheck.Whole) × (reserve ≤ mostReserve) × (d < nodeCount (now cluster)) ⌝ }
+    ensures { λ r. ⌜ r ≡ within (nodeOf (roomAt reserve (now (cluster .entry))) d) t ⌝ }
 {
-    if !within_memory(cluster, d, t) {
+    if !within_memory(reserve, cluster, d, t) {
         return false;
     }
-    within_cpu(cluster, d, t)
+    within_cpu(reserve, cluster, d, t)
 }
 
 // Whether node d bears a tally for VM v, which begins: an idle one is tested for the memory alone.
-pub fn bears_vm(cluster: &[u8], d: usize, sum: Tally, v: usize) -> bool
-    requires { ⌜ (clusterCheck (now cluster) ≡ ClusterCheck.Whole) × (d < nodeCount (now cluster)) × (v < vmCount (now cluster)) ⌝ }
-    ensures { λ r. ⌜ r ≡ bears (nodeOf (roomOf (now (cluster .entry))) d) sum (vmOf (roomOf (now (cluster .entry))) v) ⌝ }
+pub fn bears_vm(reserve: u64, cluster: &[u8], d: usize, sum: Tally, v: usize) -> bool
+    requires { ⌜ (clusterCheck (now cluster) ≡ ClusterCheck.Whole) × (reserve ≤ mostReserve) × (d < nodeCount (now cluster)) × (v < vmCount (now cluster)) ⌝ }
+    ensures { λ r. ⌜ r ≡ bears (nodeOf (roomAt reserve (now (cluster .entry))) d) sum (vmOf (roomAt reserve (now (cluster .entry))) v) ⌝ }
 {
-    if !within_memory(cluster, d, sum) {
+    if !within_memory(reserve, cluster, d, sum) {
         return false;
     }
-    if within_cpu(cluster, d, sum) {
+    if within_cpu(reserve, cluster, d, sum) {
         return true;
     }
     records::vm_cpu(cluster, v) == 0

@@ -19,7 +19,7 @@ ghost use mathlib.Core.Path.{_≡_};
 ghost use mathlib.Core.Bool.{true};
 ghost use Prim.Native.Nat.{_≤_};
 ghost use Rattle.records.specs.Base.{all};
-ghost use Rattle.records.specs.Room.{groupsOf, kindOf, constraintOf, roomOf, nodeCount, clusterCheck};
+ghost use Rattle.records.specs.Room.{groupsOf, kindOf, constraintOf, mostReserve, roomOf, roomAt, nodeCount, clusterCheck};
 ghost use Rattle.records.specs.declared.constraints.Kind.{Kind};
 ghost use Rattle.records.specs.declared.faults.ClusterCheck.{ClusterCheck};
 ghost use Rattle.rules.specs.Orders.{some};
@@ -27,16 +27,16 @@ ghost use Rattle.rules.specs.Rules.{fitsAll, targetCheck};
 ghost use Rattle.rules.specs.Verdict.{home};
 ghost use Rattle.rules.specs.Inner.{held, Formed, fitsUpTo, clearOf, groupHolds, keepsIn};
 
-// Whether the tally of every node is within what it has.
-fn all_fit(cluster: &[u8], sums: Sums) -> bool
-    requires { ⌜ clusterCheck (now cluster) ≡ ClusterCheck.Whole ⌝ }
-    ensures { λ r. ⌜ r ≡ fitsUpTo (roomOf (now (cluster .entry))) sums 0 (nodeCount (now (cluster .entry))) ⌝ }
+// Whether the tally of every node is within what is usable of it.
+fn all_fit(reserve: u64, cluster: &[u8], sums: Sums) -> bool
+    requires { ⌜ (clusterCheck (now cluster) ≡ ClusterCheck.Whole) × (reserve ≤ mostReserve) ⌝ }
+    ensures { λ r. ⌜ r ≡ fitsUpTo (roomAt reserve (now (cluster .entry))) sums 0 (nodeCount (now (cluster .entry))) ⌝ }
 {
     let n = records::node_count(cluster);
     let mut d: usize = 0;
     while d < n {
         let t = sums[d];
-        if !within_node(cluster, d, t) {
+        if !within_node(reserve, cluster, d, t) {
             return false;
         }
         d += 1;
@@ -45,13 +45,13 @@ fn all_fit(cluster: &[u8], sums: Sums) -> bool
 }
 
 // 8: whether all VMs at rest on their places fit.
-fn places_fit(cluster: &[u8], places: &Placement) -> bool
-    requires { ⌜ clusterCheck (now cluster) ≡ ClusterCheck.Whole ⌝ }
-    ensures { λ r. ⌜ r ≡ fitsAll (roomOf (now (cluster .entry))) (held (now (cluster .entry)) (now (places .entry))) ⌝ }
+fn places_fit(reserve: u64, cluster: &[u8], places: &Placement) -> bool
+    requires { ⌜ (clusterCheck (now cluster) ≡ ClusterCheck.Whole) × (reserve ≤ mostReserve) ⌝ }
+    ensures { λ r. ⌜ r ≡ fitsAll (roomAt reserve (now (cluster .entry))) (held (now (cluster .entry)) (now (places .entry))) ⌝ }
 {
     let dests = [NO_MOVE; VMS];
     let sums = loads(cluster, places, &dests);
-    all_fit(cluster, sums)
+    all_fit(reserve, cluster, sums)
 }
 
 // Whether none of the VMs is on a stopped node.
@@ -140,12 +140,12 @@ fn all_kept(cluster: &[u8], places: &Placement) -> bool
 }
 
 // The target's first fault.
-pub fn target_check(cluster: &[u8]) -> TargetCheck
-    requires { ⌜ clusterCheck (now cluster) ≡ ClusterCheck.Whole ⌝ }
-    ensures { λ r. ⌜ r ≡ targetCheck (roomOf (now (cluster .entry))) ⌝ }
+pub fn target_check(reserve: u64, cluster: &[u8]) -> TargetCheck
+    requires { ⌜ (clusterCheck (now cluster) ≡ ClusterCheck.Whole) × (reserve ≤ mostReserve) ⌝ }
+    ensures { λ r. ⌜ r ≡ targetCheck (roomAt reserve (now (cluster .entry))) ⌝ }
 {
     let places = target_places(cluster);
-    if !places_fit(cluster, &places) {
+    if !places_fit(reserve, cluster, &places) {
         return TargetCheck::Bad(TargetFault::Overfull);
     }
     if !all_kept(cluster, &places) {

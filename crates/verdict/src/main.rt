@@ -1,4 +1,6 @@
-// Prints the verdict on a plan for a cluster: `accepted cost N` or `refused N step S`. Its arguments name the files of the two records.
+// Prints the verdict on a plan for a cluster: `accepted cost N` or `refused N step S`. Its arguments name the files of the two records; a third
+// one is the reserve, in percent, without which it is 0.
+use files::Number;
 use files::Size;
 use libc::STDERR_FILENO;
 use libc::STDOUT_FILENO;
@@ -26,8 +28,8 @@ fn refused(fault: Fault) {
 }
 
 // The line of a verdict.
-fn judged(cluster: &[u8], plan: &[u8]) {
-    let found = rules::verdict_on(cluster, plan);
+fn judged(reserve: u64, cluster: &[u8], plan: &[u8]) {
+    let found = rules::verdict_on(reserve, cluster, plan);
     match found {
         Verdict::Accepted(cost) => field(b"accepted cost ", cost),
         Verdict::Refused(fault) => refused(fault),
@@ -51,24 +53,48 @@ fn stand_in(plan: &[u8; 65536], size: usize) -> [u8; 8]
 }
 
 // The line of the verdict on files of so many bytes, whose first are in the buffers.
-fn judged_files(cluster: &[u8; 65536], n: usize, plan: &[u8; 65536], m: usize) {
+fn judged_files(reserve: u64, cluster: &[u8; 65536], n: usize, plan: &[u8; 65536], m: usize) {
     let record = files::front(cluster, n);
     if m <= records::LONGEST_PLAN {
-        judged(record, files::front(plan, m));
+        judged(reserve, record, files::front(plan, m));
     } else {
         let short = stand_in(plan, m);
-        judged(record, &short);
+        judged(reserve, record, &short);
     }
 }
 
+// The reserve that is asked for, or 0.
+fn reserve_given() -> Number {
+    if os::arg_count() < 4 {
+        return Number::Is(0);
+    }
+    files::load_number(b"verdict", b"the reserve", 3)
+}
+
+// Whether there are two arguments or three; says what there should be if not.
+fn arguments_fit() -> bool {
+    let n = os::arg_count();
+    if n == 3 {
+        return true;
+    }
+    if n == 4 {
+        return true;
+    }
+    io::write_all(
+        STDERR_FILENO,
+        b"verdict: it takes a cluster file and a plan file, and a reserve if one is kept\n",
+    );
+    false
+}
+
 fn main() {
-    if os::arg_count() != 3 {
-        io::write_all(
-            STDERR_FILENO,
-            b"verdict: it takes a cluster file and a plan file\n",
-        );
+    if !arguments_fit() {
         return;
     }
+    let asked = reserve_given();
+    let Number::Is(reserve) = asked else {
+        return;
+    };
     let mut cluster = io::large_buffer();
     let mut plan = io::large_buffer();
     let first = files::load(b"verdict", 1, &mut cluster, CLUSTER_ENOUGH);
@@ -79,5 +105,5 @@ fn main() {
     let Size::Bytes(m) = second else {
         return;
     };
-    judged_files(&cluster, n, &plan, m);
+    judged_files(reserve, &cluster, n, &plan, m);
 }

@@ -13,17 +13,17 @@ const NOWHERE: u8 = 255;
 /// A refusal's number and step.
 type Fault = (u8, u16);
 
-/// Checks a plan for a cluster; the packed verdict.
-pub fn check(cluster: &[u8], plan: &[u8]) -> u64 {
-    match verdict(cluster, plan) {
+/// Checks a plan for a cluster at a reserve; the packed verdict.
+pub fn check(reserve: u64, cluster: &[u8], plan: &[u8]) -> u64 {
+    match verdict(reserve, cluster, plan) {
         Ok(cost) => ACCEPTED | cost,
         Err((number, step)) => REFUSED | u64::from(number) << 16 | u64::from(step),
     }
 }
 
-fn verdict(cluster: &[u8], plan: &[u8]) -> Result<u64, Fault> {
-    let room = read_room(cluster).map_err(|number| (number, 0))?;
+fn verdict(reserve: u64, cluster: &[u8], plan: &[u8]) -> Result<u64, Fault> {
     let shape = |number: u8| (number, 0);
+    let room = read_room(reserve, cluster).map_err(shape)?;
     match plan.first() {
         None => run_any::<2>(&room, plan),
         Some(2) => run_any::<3>(&room, steps_of::<3>(plan).map_err(shape)?),
@@ -33,7 +33,8 @@ fn verdict(cluster: &[u8], plan: &[u8]) -> Result<u64, Fault> {
 
 // ---------------------------------------------------------------- the cluster record
 
-/// A cluster record, read. Arrays are as long as the largest room needs.
+/// A cluster record, read, with what is usable of each node. Arrays are as long as the largest room
+/// needs.
 struct Room {
     n: usize,
     v: usize,
@@ -80,8 +81,11 @@ fn stated_length(b: &[u8]) -> usize {
     u32::from_be_bytes([b[1], b[2], b[3], b[4]]) as usize
 }
 
-/// Reads a cluster record; the error is the refusal number, 1 to 9.
-fn read_room(bytes: &[u8]) -> Result<Room, u8> {
+/// Reads a cluster record; the error is the refusal number, 23 or 1 to 9.
+fn read_room(reserve: u64, bytes: &[u8]) -> Result<Room, u8> {
+    if reserve > 90 {
+        return Err(23);
+    }
     if bytes.len() < 11 {
         return Err(1);
     }
@@ -102,7 +106,7 @@ fn read_room(bytes: &[u8]) -> Result<Room, u8> {
         return Err(5);
     }
     let mut room = empty_room(n, v, bytes[0] == 2);
-    read_nodes(&mut room, &bytes[11..vms_at]);
+    read_nodes(&mut room, &bytes[11..vms_at], 100 - reserve);
     read_vms(&mut room, &bytes[vms_at..constraints_at]).ok_or(6)?;
     let kept = read_constraints(&mut room, constraints).ok_or(7)?;
     target_fits(&room).ok_or(8)?;
@@ -136,10 +140,11 @@ fn constraints_fill(mut rest: &[u8], c: usize) -> bool {
     rest.is_empty()
 }
 
-fn read_nodes(room: &mut Room, rows: &[u8]) {
+/// Reads the node rows; so many percent of each are usable.
+fn read_nodes(room: &mut Room, rows: &[u8], percent: u64) {
     for (i, row) in rows.chunks_exact(5).enumerate() {
-        room.node_memory[i] = be24(row);
-        room.node_cpu[i] = be16(&row[3..]) as u64;
+        room.node_memory[i] = be24(row) * percent / 100;
+        room.node_cpu[i] = be16(&row[3..]) as u64 * percent / 100;
     }
 }
 

@@ -7,7 +7,8 @@ use crate::seen::Made;
 use crate::{build, build_lent, check, Lent};
 use kobdrieft_model::gen::Rng;
 use kobdrieft_model::planner::BUFFER;
-use kobdrieft_model::{self as model, bare, parse_cluster, parse_plan, plan_bytes, Room, Step};
+use kobdrieft_model::rules::usable_room;
+use kobdrieft_model::{self as model, bare, parse_cluster, parse_plan, plan_bytes};
 
 /// The outcomes of `build`, and what the plans of generated inputs were like.
 #[derive(Default)]
@@ -28,15 +29,10 @@ impl Builds {
         if outcome != 1 && cluster[0] == 2 {
             self.launches.count(stream, outcome);
         }
-        if built.is_refused() {
-            return None;
-        }
-        let room = parse_cluster(cluster).expect("the model took it");
-        let steps = parse_plan(built.record()).expect("the model wrote it").steps;
-        let made = Made::of(outcome == 0, room, steps);
+        let made = built.made(0, cluster)?;
         self.launches.tell(stream, &made);
         if !matches!(stream, Stream::HandSet) {
-            let pivots = pivots(&made.room, made.steps());
+            let pivots = made.pivots();
             self.most_pivots = self.most_pivots.max(pivots);
             self.most_steps = self.most_steps.max(built.steps());
             self.pivoted += u64::from(outcome == 0 && pivots > 0);
@@ -64,11 +60,6 @@ impl Builds {
     }
 }
 
-/// How many moves of a plan go elsewhere than to their VM's target.
-fn pivots(room: &Room, steps: &[Step]) -> usize {
-    steps.iter().flatten().filter(|m| m.to != room.vms[m.vm].target).count()
-}
-
 /// The buffer's length for the next comparison. Every length below the least one that is taken
 /// comes in turn, then that one, and longer ones.
 pub fn buffer_length(turn: usize) -> usize {
@@ -83,39 +74,45 @@ pub fn buffer_length(turn: usize) -> usize {
 impl Report {
     /// Compares `build` with a buffer of this length and random bytes in it; all of the buffer
     /// counts. Then the library checks what it wrote.
-    pub fn build(&mut self, stream: Stream, cluster: &[u8], buffer: usize) {
+    pub fn build(&mut self, stream: Stream, reserve: u64, cluster: &[u8], buffer: usize) {
         let mut rng = Rng::new(self.passed + self.failed);
         let before: Vec<u8> = (0..buffer).map(|_| rng.draw() as u8).collect();
-        let expected = built_by(&before, |out| model::pack_answer(model::build(cluster, out)));
-        if let Some(made) = self.builds.count(stream, cluster, &expected) {
+        let by_model = |reserve| {
+            built_by(&before, |out| model::pack_answer(model::build(reserve, cluster, out)))
+        };
+        let expected = by_model(reserve);
+        if reserve > 0 {
+            self.reserves.count_build(stream, reserve, cluster, &expected, &by_model(0));
+        } else if let Some(made) = self.builds.count(stream, cluster, &expected) {
             self.idle.built.count(stream, &made);
         }
-        let (mut result, kept) = built_watched(cluster, &before);
+        let (mut result, kept) = built_watched(reserve, cluster, &before);
         if kept && result == expected {
-            result = built_by(&before, |out| build(cluster, out));
+            result = built_by(&before, |out| build(reserve, cluster, out));
         }
         if self.judge(kept && result == expected) {
             println!("build differs{}", if kept { "" } else { STRAY });
-            println!("cluster {}\nbuffer before {}", hex(cluster), hex(&before));
+            println!("reserve {reserve}\ncluster {}", hex(cluster));
+            println!("buffer before {}", hex(&before));
             println!("library {}\n{}", answer_words(result.answer), hex(&result.out));
             println!("model   {}\n{}", answer_words(expected.answer), hex(&expected.out));
         }
         if !result.is_refused() {
-            self.check_built(cluster, &result);
+            self.check_built(reserve, cluster, &result);
         }
     }
 
     /// The library's own checker must take the plan it built at its cost, and refuse the steps
     /// of blocked with 19; and the same steps without their sources.
-    fn check_built(&mut self, cluster: &[u8], built: &Built) {
+    fn check_built(&mut self, reserve: u64, cluster: &[u8], built: &Built) {
         let expected =
             if built.answer >> 62 == 0 { built.answer & COST } else { 2 << 62 | 19 << 16 };
         let without = parse_plan(built.record()).map(|plan| plan_bytes(&bare(&plan.steps)));
         for record in [Some(built.record()), without.ok().as_deref()].into_iter().flatten() {
-            let result = check(cluster, record);
+            let result = check(reserve, cluster, record);
             if self.judge(result == expected) {
                 println!("check of a built plan differs, answer {}", answer_words(built.answer));
-                println!("cluster {}\nplan {}", hex(cluster), hex(record));
+                println!("reserve {reserve}\ncluster {}\nplan {}", hex(cluster), hex(record));
                 println!("library {}", verdict_words(result));
                 println!("wanted  {}", verdict_words(expected));
             }
@@ -125,8 +122,8 @@ impl Report {
 
 /// An answer, and the buffer after the call.
 #[derive(PartialEq)]
-struct Built {
-    answer: u64,
+pub(crate) struct Built {
+    pub(crate) answer: u64,
     out: Vec<u8>,
 }
 
@@ -137,6 +134,16 @@ impl Built {
 
     fn steps(&self) -> usize {
         (self.answer >> 53 & 511) as usize
+    }
+
+    /// What the model built for a cluster at a reserve, unless it is a refusal.
+    pub(crate) fn made(&self, reserve: u64, cluster: &[u8]) -> Option<Made> {
+        if self.is_refused() {
+            return None;
+        }
+        let room = usable_room(reserve, &parse_cluster(cluster).expect("the model took it"));
+        let steps = parse_plan(self.record()).expect("the model wrote it").steps;
+        Some(Made::of(self.answer >> 62 == 0, room, steps))
     }
 
     /// The record at the buffer's front, by the length that it states.
@@ -153,9 +160,9 @@ fn built_by(before: &[u8], planner: impl Fn(&mut [u8]) -> u64) -> Built {
 }
 
 /// What the library builds between guards; and whether the cluster and the guards stayed.
-fn built_watched(cluster: &[u8], before: &[u8]) -> (Built, bool) {
+fn built_watched(reserve: u64, cluster: &[u8], before: &[u8]) -> (Built, bool) {
     let (mut lent, mut out) = (Lent::of(cluster), Lent::of(before));
-    let answer = build_lent(&mut lent, &mut out);
+    let answer = build_lent(reserve, &mut lent, &mut out);
     let kept = lent.untouched() && out.guarded();
     (Built { answer, out: out.now().to_vec() }, kept)
 }

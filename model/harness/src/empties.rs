@@ -40,25 +40,30 @@ impl Report {
     /// Compares `check` on a cluster, whole or damaged, beside no plan bytes; then the library's
     /// verdict on no plan bytes with those on the headers of a plan of no steps, one of each
     /// version, which must be equal to it.
-    pub fn no_steps(&mut self, stream: Stream, cluster: &[u8]) {
-        let expected = model::pack_verdict(model::check(cluster, &[]));
-        self.empties.headers[outcome(expected)][stream as usize] += 1;
-        let (mut no_bytes, kept) = check_watched(cluster, &[]);
+    pub fn no_steps(&mut self, stream: Stream, reserve: u64, cluster: &[u8]) {
+        let expected = model::pack_verdict(model::check(reserve, cluster, &[]));
+        match reserve {
+            0 => self.empties.headers[outcome(expected)][stream as usize] += 1,
+            _ => self.reserves.count_headers(stream, expected),
+        }
+        let (mut no_bytes, kept) = check_watched(reserve, cluster, &[]);
         if kept && no_bytes == expected {
-            no_bytes = check(cluster, &[]);
+            no_bytes = check(reserve, cluster, &[]);
         }
         if self.judge(kept && no_bytes == expected) {
             let stray = if kept { "" } else { STRAY };
-            println!("check on no plan bytes differs{stray}\ncluster {}", hex(cluster));
+            println!("check on no plan bytes differs{stray}");
+            println!("reserve {reserve}\ncluster {}", hex(cluster));
             println!("library {}", verdict_words(no_bytes));
             println!("model   {}", verdict_words(expected));
         }
         for version in Version::ALL {
             let header = header(version);
-            let with_header = check(cluster, &header);
+            let with_header = check(reserve, cluster, &header);
             if self.judge(no_bytes == with_header) {
                 println!("check tells no plan bytes from the header of a plan of no steps");
-                println!("cluster {}\nheader {}", hex(cluster), hex(&header));
+                println!("reserve {reserve}\ncluster {}", hex(cluster));
+                println!("header {}", hex(&header));
                 println!("no plan bytes {}", verdict_words(no_bytes));
                 println!("the header    {}", verdict_words(with_header));
                 println!("model         {}", verdict_words(expected));

@@ -14,9 +14,10 @@ use kobdrieft_model::{Constraint, Move, Node, Plan, Room, Step, Version, Vm, NOW
 pub type Outcome = Option<(u8, u16)>;
 
 /// One input: the same steps as a plan of version 1 and as one of version 2, each with the outcome
-/// it is made for.
+/// it is made for at this reserve.
 pub struct Input {
     pub name: &'static str,
+    pub reserve: u64,
     pub room: Room,
     pub steps: Vec<Step>,
     pub cluster: Vec<u8>,
@@ -42,6 +43,7 @@ pub fn all() -> Vec<Input> {
         closed_nodes(),
         closed_nodes_entered(),
         mixed(),
+        mixed_at_a_reserve(),
         wide_steps(),
         wide_steps_too_full(),
         wide_steps_wrong_source(),
@@ -53,11 +55,11 @@ pub fn all() -> Vec<Input> {
     ]
 }
 
-/// Steps with one outcome in both versions, as every source that is named is right.
+/// Steps with one outcome in both versions, as every source that is named is right, and no reserve.
 fn input(name: &'static str, (room, steps): (Room, Vec<Step>), outcome: Outcome) -> Input {
     let cluster = cluster_bytes(&room);
     let plans = [bare(&steps), named(&room, &steps)].map(|plan| plan_bytes(&plan));
-    Input { name, room, steps, cluster, plans, outcomes: [outcome; 2] }
+    Input { name, reserve: 0, room, steps, cluster, plans, outcomes: [outcome; 2] }
 }
 
 /// An accepted input whose last move names its destination as its source: 27 in version 2.
@@ -229,6 +231,11 @@ pub fn mixed() -> Input {
     constraints.extend(vec![fence; 32]);
     constraints.extend(latencies(32));
     input("mixed", away_and_back(constraints), None)
+}
+
+/// The same at reserve 10.
+pub fn mixed_at_a_reserve() -> Input {
+    Input { name: "mixed, reserve 10", reserve: 10, ..mixed() }
 }
 
 // ---------------------------------------------------------------- wide steps

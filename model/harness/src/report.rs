@@ -3,6 +3,7 @@ use crate::builds::Builds;
 use crate::empties::Empties;
 use crate::idle::Idle;
 use crate::nowhere::Nowhere;
+use crate::reserves::Reserves;
 use crate::seen::Seen;
 use crate::sources::Sources;
 use crate::{check, check_lent, Lent};
@@ -39,29 +40,56 @@ pub struct Report {
     pub(crate) idle: Idle,
     pub(crate) empties: Empties,
     pub(crate) builds: Builds,
+    pub(crate) reserves: Reserves,
 }
 
 impl Report {
-    /// Compares `check` on one input, lent between guards and then as it is.
-    pub fn check(&mut self, stream: Stream, cluster: &[u8], plan: &[u8], origin: Option<Origin>) {
-        let expected = model::pack_verdict(model::check(cluster, plan));
+    /// Compares `check` on one input, lent between guards and then as it is. What is accepted at a
+    /// reserve is checked at a smaller one too.
+    pub fn check(
+        &mut self,
+        stream: Stream,
+        reserve: u64,
+        cluster: &[u8],
+        plan: &[u8],
+        origin: Option<Origin>,
+    ) {
+        let expected = model::pack_verdict(model::check(reserve, cluster, plan));
+        match reserve {
+            0 => self.count_check(stream, cluster, plan, expected, origin),
+            _ => self.reserves.count_check(stream, reserve, cluster, plan, expected),
+        }
+        let (mut result, kept) = check_watched(reserve, cluster, plan);
+        if kept && result == expected {
+            result = check(reserve, cluster, plan);
+        }
+        if self.judge(kept && result == expected) {
+            println!("check differs{}", if kept { "" } else { STRAY });
+            println!("reserve {reserve}\ncluster {}\nplan {}", hex(cluster), hex(plan));
+            println!("library {}", verdict_words(result));
+            println!("model   {}", verdict_words(expected));
+        }
+        if reserve > 0 && outcome(expected) == 0 {
+            self.check_below(stream, reserve, cluster, plan, expected);
+        }
+    }
+
+    /// Counts an input of `check` with no reserve.
+    fn count_check(
+        &mut self,
+        stream: Stream,
+        cluster: &[u8],
+        plan: &[u8],
+        expected: u64,
+        origin: Option<Origin>,
+    ) {
         self.checks[outcome(expected)][stream as usize] += 1;
         self.sources.count(stream, cluster, plan, expected, origin);
-        let seen = Seen::of(cluster, plan, expected);
+        let seen = Seen::of(0, cluster, plan, expected);
         self.nowhere.count(stream, cluster, expected, seen.as_ref());
         seen.iter().for_each(|seen| self.idle.checked.count(stream, seen));
         if plan.is_empty() {
             self.empties.count_file(stream, expected);
-        }
-        let (mut result, kept) = check_watched(cluster, plan);
-        if kept && result == expected {
-            result = check(cluster, plan);
-        }
-        if self.judge(kept && result == expected) {
-            println!("check differs{}", if kept { "" } else { STRAY });
-            println!("cluster {}\nplan {}", hex(cluster), hex(plan));
-            println!("library {}", verdict_words(result));
-            println!("model   {}", verdict_words(expected));
         }
     }
 
@@ -80,8 +108,8 @@ impl Report {
         let checks = missing(&self.checks, "check", (0..=9).chain(11..=19).chain([27]));
         let (sources, empties) = (self.sources.missing(), self.empties.missing());
         let (nowhere, builds) = (self.nowhere.missing(), self.builds.missing());
-        let idle = self.idle.missing();
-        for name in [checks, sources, nowhere, empties, builds, idle].concat() {
+        let (idle, reserves) = (self.idle.missing(), self.reserves.missing());
+        for name in [checks, sources, nowhere, empties, builds, idle, reserves].concat() {
             println!("never generated: {name}");
             self.failed += 1;
         }
@@ -96,6 +124,7 @@ impl Report {
         self.empties.print();
         self.builds.print();
         self.idle.print();
+        self.reserves.print();
         self.sources.print_origins();
         println!("{} passed, {} failed", self.passed, self.failed);
     }
@@ -105,9 +134,9 @@ impl Report {
 pub(crate) const STRAY: &str = ": bytes written that are not the call's to write";
 
 /// The library's verdict on bytes between guards, and whether all those bytes stayed.
-pub(crate) fn check_watched(cluster: &[u8], plan: &[u8]) -> (u64, bool) {
+pub(crate) fn check_watched(reserve: u64, cluster: &[u8], plan: &[u8]) -> (u64, bool) {
     let (mut cluster, mut plan) = (Lent::of(cluster), Lent::of(plan));
-    let verdict = check_lent(&mut cluster, &mut plan);
+    let verdict = check_lent(reserve, &mut cluster, &mut plan);
     (verdict, cluster.untouched() && plan.untouched())
 }
 

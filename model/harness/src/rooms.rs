@@ -4,12 +4,14 @@
 use crate::inputs::{full_room, latencies, spread_lists, CONSTRAINTS, HOMES, NODES, VMS};
 use kobdrieft_model::edges::cluster_a;
 use kobdrieft_model::gen::swaps;
+use kobdrieft_model::reserves::raised;
 use kobdrieft_model::rules::Placement;
 use kobdrieft_model::{cluster_bytes, Constraint, Node, Room, Version, Vm, NOWHERE};
 
-/// One room, with the answer it is made for.
+/// One room, with the answer it is made for at this reserve.
 pub struct Task {
     pub name: &'static str,
+    pub reserve: u64,
     pub room: Room,
     pub cluster: Vec<u8>,
     pub ends: Ends,
@@ -31,6 +33,7 @@ pub fn all() -> Vec<Task> {
         task("exchanges, 3 nodes", swaps(VMS / 2), Ends::Plan, 384),
         task("rotation, 128 spreads", spread_rotation(), Ends::Plan, 140),
         task("rotation, tight", tight_rotation(), Ends::Plan, 256),
+        tight_at_a_reserve(),
         task("exchanges, blocked late", exchanges(2), Ends::Blocked, 381),
         task("exchanges beside stuck", stuck(Node { memory: 0, cpu: 0 }), Ends::Blocked, 192),
         task("the same, nodes free", stuck(ROOMY), Ends::Blocked, 192),
@@ -43,7 +46,7 @@ pub fn all() -> Vec<Task> {
 }
 
 fn task(name: &'static str, room: Room, ends: Ends, steps: u16) -> Task {
-    Task { name, cluster: cluster_bytes(&room), room, ends, steps }
+    Task { name, reserve: 0, cluster: cluster_bytes(&room), room, ends, steps }
 }
 
 const ROOMY: Node = Node { memory: 60_000, cpu: 60_000 };
@@ -101,6 +104,13 @@ fn tight_rotation() -> Room {
     let mut room = full_nodes(place, latencies(CONSTRAINTS));
     room.nodes[ring].memory += 10;
     room
+}
+
+/// The same at reserve 10, where just what was there is usable.
+fn tight_at_a_reserve() -> Task {
+    let reserve = 10;
+    let room = raised(reserve, &tight_rotation());
+    Task { reserve, ..task("rotation, tight, reserve 10", room, Ends::Plan, 256) }
 }
 
 /// Where VM i is and where it should go: first two times `half` VMs that are to change nodes 0 and

@@ -1,7 +1,7 @@
 //! What an input of `check` came to, and what was built for one of `build`, step by step.
 
 use crate::report::outcome;
-use kobdrieft_model::rules::Placement;
+use kobdrieft_model::rules::{usable_room, Placement};
 use kobdrieft_model::{parse_cluster, parse_plan, Move, Plan, Room, Step, Version};
 
 /// Steps, and where VMs are before the first of them, after it, and so on to the last.
@@ -35,8 +35,9 @@ impl Course {
     }
 }
 
-/// An input whose cluster can be read: the model's number, 0 for accepted; the plan, as one of no
-/// steps if it cannot be read; the steps before the one at fault, or all; and the step at fault.
+/// An input whose reserve is taken and whose cluster can be read: the model's number, 0 for accepted;
+/// the room with its usable amounts; the plan, as one of no steps if it cannot be read; the steps
+/// before the one at fault, or all; and the step at fault.
 pub(crate) struct Seen {
     pub(crate) number: usize,
     pub(crate) room: Room,
@@ -46,9 +47,10 @@ pub(crate) struct Seen {
 }
 
 impl Seen {
-    pub(crate) fn of(cluster: &[u8], plan: &[u8], verdict: u64) -> Option<Seen> {
+    pub(crate) fn of(reserve: u64, cluster: &[u8], plan: &[u8], verdict: u64) -> Option<Seen> {
         let (number, step) = (outcome(verdict), (verdict & 65_535) as usize);
-        let room = parse_cluster(cluster).ok()?;
+        let room = parse_cluster(cluster).ok().filter(|_| number != 23)?;
+        let room = usable_room(reserve, &room);
         let plan = parse_plan(plan).unwrap_or(Plan::empty(Version::One));
         let is_at_fault = matches!(number, 15..=18 | 27);
         let sound = match number {
@@ -67,7 +69,8 @@ impl Seen {
     }
 }
 
-/// What was built for a cluster: whether it is a plan or blocked, and its steps with their sources.
+/// What was built for a cluster: whether it is a plan or blocked, the room with its usable amounts, and
+/// the steps with their sources.
 pub(crate) struct Made {
     pub(crate) planned: bool,
     pub(crate) room: Room,
@@ -81,5 +84,10 @@ impl Made {
 
     pub(crate) fn steps(&self) -> &[Step] {
         &self.course.steps
+    }
+
+    /// How many moves go elsewhere than to their VM's target.
+    pub(crate) fn pivots(&self) -> usize {
+        self.steps().iter().flatten().filter(|m| m.to != self.room.vms[m.vm].target).count()
     }
 }

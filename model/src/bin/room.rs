@@ -4,8 +4,8 @@ use kobdrieft_model::draw::{page, Whose};
 use kobdrieft_model::form::{read_cluster, read_plan, write_cluster, write_plan, Fault};
 use kobdrieft_model::ledger::{lines, table};
 use kobdrieft_model::reasons::reason;
-use kobdrieft_model::rules::plan_cost;
-use kobdrieft_model::text::{planned, verdict_text};
+use kobdrieft_model::rules::{plan_cost, reserve_fault};
+use kobdrieft_model::text::{planned, read_reserve, verdict_text};
 use kobdrieft_model::{check, cluster_bytes, parse_cluster, parse_plan, plan_bytes};
 use kobdrieft_model::{Plan, Room, Verdict};
 use std::{env, fs, io::Write, process::ExitCode};
@@ -15,12 +15,15 @@ room pack TEXT CLUSTER           a cluster's text to its record
 room unpack CLUSTER [TEXT]       a cluster record to text
 room pack-plan TEXT PLAN         a plan's text to its record, of the text's version
 room unpack-plan PLAN [TEXT]     a plan record to text
-room plan CLUSTER PLAN           make a plan, write its record, print what the planning program prints
-room check CLUSTER PLAN          print the verdict
+room plan [--reserve R] CLUSTER PLAN
+                                 make a plan, write its record, print what the planning program prints
+room check [--reserve R] CLUSTER PLAN
+                                 print the verdict
 room cost CLUSTER PLAN           print how the cost builds up, a line for each step; the last word is the cost
-room draw CLUSTER PLAN PAGE [VERDICT]
+room draw [--reserve R] CLUSTER PLAN PAGE [VERDICT]
                                  draw a plan as an HTML page; VERDICT is the line that the proved checker
                                  prints for it, else the page shows the model's own
+R is the share of each node, in percent, that is kept for the hypervisor: 0 if it is not given
 a PLAN of 0 bytes is read as a plan of no steps
 exit status: 0 plan or accepted, or done; 1 blocked; 2 refused, or a damaged record;
              3 wrong use, or a file that cannot be read or written
@@ -48,7 +51,8 @@ fn main() -> ExitCode {
 }
 
 fn run(words: &[&str]) -> Outcome {
-    match *words {
+    let (reserve, words) = take_reserve(words)?;
+    match words[..] {
         ["pack", text, cluster] => {
             let room = read_cluster(&read(text)?).map_err(|fault| at(text, fault))?;
             write(cluster, &cluster_bytes(&room))
@@ -65,11 +69,13 @@ fn run(words: &[&str]) -> Outcome {
             let plan = record(plan, parse_plan)?;
             give(text.first(), &write_plan(&plan))
         }
-        ["plan", cluster, plan] => make_plan(cluster, plan),
-        ["check", cluster, plan] => answer(&verdict_text(check(&read(cluster)?, &read(plan)?))),
+        ["plan", cluster, plan] => make_plan(reserve, cluster, plan),
+        ["check", cluster, plan] => {
+            answer(&verdict_text(check(reserve, &read(cluster)?, &read(plan)?)))
+        }
         ["cost", cluster, plan] => cost_table(cluster, plan),
         ["draw", cluster, plan, page, ref verdict @ ..] if verdict.len() < 2 => {
-            draw_plan(cluster, plan, page, verdict.first())
+            draw_plan(reserve, cluster, plan, page, verdict.first())
         }
         ["help" | "--help" | "-h"] => give(None, USAGE),
         _ => {
@@ -79,9 +85,19 @@ fn run(words: &[&str]) -> Outcome {
     }
 }
 
+/// Takes the reserve, or 0 if none is given, out from behind the commands that look at one.
+fn take_reserve<'a>(words: &[&'a str]) -> Result<(u64, Vec<&'a str>), Failure> {
+    let [command @ ("plan" | "check" | "draw"), "--reserve", digits, rest @ ..] = words else {
+        return Ok((0, words.to_vec()));
+    };
+    let why = || wrong(format!("'{digits}' stands where a reserve should, a number in digits"));
+    let reserve = read_reserve(digits).ok_or_else(why)?;
+    Ok((reserve, [&[*command], rest].concat()))
+}
+
 /// Makes a plan with the model. A refused cluster gives a refusal line and no record.
-fn make_plan(cluster: &str, plan: &str) -> Outcome {
-    let (text, made) = planned(&read(cluster)?);
+fn make_plan(reserve: u64, cluster: &str, plan: &str) -> Outcome {
+    let (text, made) = planned(reserve, &read(cluster)?);
     if let Some(made) = made {
         write(plan, &made)?;
     }
@@ -102,12 +118,12 @@ fn answer(text: &str) -> Outcome {
 }
 
 /// Prints how the cost builds up. A plan that the checker would refuse has a cost too; that it
-/// would is a remark beside the table.
+/// would, with no reserve, is a remark beside the table.
 fn cost_table(cluster: &str, plan: &str) -> Outcome {
     let room = record(cluster, parse_cluster)?;
     let given = record(plan, parse_plan)?;
     let lines = lines(&room, &given.steps).map_err(|why| refused(plan, 15, &format!(" {why}")))?;
-    let verdict = check(&cluster_bytes(&room), &plan_bytes(&given));
+    let verdict = check(0, &cluster_bytes(&room), &plan_bytes(&given));
     let cost = match verdict {
         Verdict::Accepted { cost } => cost,
         Verdict::Refused { .. } => plan_cost(&room, &given.steps),
@@ -121,20 +137,24 @@ fn cost_table(cluster: &str, plan: &str) -> Outcome {
     Ok(DONE)
 }
 
-fn draw_plan(cluster: &str, plan: &str, to: &str, verdict: Option<&&str>) -> Outcome {
+/// Draws a plan. With a reserve that is too high nothing is drawn: no node then has a usable amount.
+fn draw_plan(reserve: u64, cluster: &str, plan: &str, to: &str, verdict: Option<&&str>) -> Outcome {
+    if let Some(number) = reserve_fault(reserve) {
+        return Err(refused("--reserve", number, ""));
+    }
     let room = record(cluster, parse_cluster)?;
     let given = record(plan, parse_plan)?;
     let whose = match verdict {
-        Some(line) => agreed(&room, &given, line)?,
+        Some(line) => agreed(reserve, &room, &given, line)?,
         None => Whose::Model,
     };
     let unfit = |why| Failure(REFUSED, format!("{plan}: {why}"));
-    write(to, page(&room, &given, whose).map_err(unfit)?.as_bytes())
+    write(to, page(reserve, &room, &given, whose).map_err(unfit)?.as_bytes())
 }
 
 /// A verdict is shown as the proved checker's only if the model's is the same.
-fn agreed(room: &Room, plan: &Plan, line: &str) -> Result<Whose, Failure> {
-    let own = verdict_text(check(&cluster_bytes(room), &plan_bytes(plan)));
+fn agreed(reserve: u64, room: &Room, plan: &Plan, line: &str) -> Result<Whose, Failure> {
+    let own = verdict_text(check(reserve, &cluster_bytes(room), &plan_bytes(plan)));
     let (own, line) = (own.trim_end(), line.trim());
     if own == line {
         return Ok(Whose::Checker);

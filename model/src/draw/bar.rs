@@ -2,11 +2,13 @@
 
 use super::svg::{line, rect, Area};
 
-/// A bar: where it stands, what its full height stands for, and the capacity of its node.
+/// A bar: where it stands, what its full height stands for, the capacity of its node, and what is kept
+/// of that node above it.
 pub struct Bar {
     pub area: Area,
     pub most: u64,
     pub capacity: u64,
+    pub kept: u64,
 }
 
 impl Bar {
@@ -17,6 +19,18 @@ impl Bar {
     /// The bar as high as an amount, or whole if it is not high enough.
     pub fn up_to(&self, amount: u64) -> Area {
         Area { height: self.high(amount.min(self.most)), ..self.area }
+    }
+
+    /// What a node has: its capacity, and what is kept as far as the bar reaches.
+    pub fn ground(&self) -> String {
+        let usable = self.up_to(self.capacity);
+        let whole = self.up_to(self.capacity + self.kept);
+        let height = whole.height - usable.height;
+        let mut out = rect("room", usable, "");
+        if height > 0.0 {
+            out += &rect("kept", Area { bottom: usable.top(), height, ..whole }, "");
+        }
+        out
     }
 
     /// The capacity line, and the mark of a bar that is overfull.

@@ -1,5 +1,6 @@
 //! What refuses a step, for the faults 27 and 16 to 18: what to mark in its frame, and why.
 
+use super::kept::Kept;
 use super::words::place_words;
 use crate::form::{constraint_line, number_list, NODES};
 use crate::records::{on_a_node, Move, Room};
@@ -28,11 +29,11 @@ pub struct Blame {
 }
 
 impl Blame {
-    pub fn of(room: &Room, here: &Placement, step: &[Move], number: u8) -> Blame {
+    pub fn of(room: &Room, kept: &Kept, here: &Placement, step: &[Move], number: u8) -> Blame {
         let (word, culprits) = match number {
             27 => ("not here", step.iter().filter_map(|&m| misplaced(room, here, m)).collect()),
             16 => ("forbidden", step.iter().filter_map(|&m| forbidden(room, m)).collect()),
-            17 => ("no space", no_space(room, here, step)),
+            17 => ("no space", no_space(room, kept, here, step)),
             18 => ("mates meet", step.iter().flat_map(|&m| meets(room, here, step, m)).collect()),
             _ => ("", vec![]),
         };
@@ -83,13 +84,19 @@ fn forbidden(room: &Room, Move { vm, to, .. }: Move) -> Option<Culprit> {
 }
 
 /// Fault 17: each node that in some order does not take an arrival.
-fn no_space(room: &Room, here: &Placement, step: &[Move]) -> Vec<Culprit> {
-    (0..room.nodes.len()).filter_map(|node| misfit(room, here, step, node)).collect()
+fn no_space(room: &Room, kept: &Kept, here: &Placement, step: &[Move]) -> Vec<Culprit> {
+    (0..room.nodes.len()).filter_map(|node| misfit(room, kept, here, step, node)).collect()
 }
 
 /// The arrivals at a node begin by number until one does not fit; nobody ends. Where it does not fit
 /// by CPU, idle VMs have no part in it and are left out.
-fn misfit(room: &Room, here: &Placement, step: &[Move], node: usize) -> Option<Culprit> {
+fn misfit(
+    room: &Room,
+    kept: &Kept,
+    here: &Placement,
+    step: &[Move],
+    node: usize,
+) -> Option<Culprit> {
     let mut sum = here.sums[node];
     let mut begun = Vec::new();
     for m in step.iter().filter(|m| m.to == node) {
@@ -101,7 +108,7 @@ fn misfit(room: &Room, here: &Placement, step: &[Move], node: usize) -> Option<C
             begun.retain(|&vm| has_part(vm));
             let leaves = |m: &&Move| here.place[m.vm] == node && has_part(m.vm);
             let leavers: Vec<Move> = step.iter().filter(leaves).copied().collect();
-            let what = format!("{}{}", excess(room, node, sum), still_there(&leavers));
+            let what = format!("{}{}", excess(room, kept, node, sum), still_there(&leavers));
             let why = order(&begun, node, &what);
             return Some(Culprit { place: Some(node), blocks: vec![], why });
         }
@@ -109,13 +116,14 @@ fn misfit(room: &Room, here: &Placement, step: &[Move], node: usize) -> Option<C
     None
 }
 
-/// The sum that keeps an arrival out: memory, or CPU if there is memory enough.
-fn excess(room: &Room, node: usize, sum: Sum) -> String {
+/// The sum that is too much for a node: memory, or CPU if there is memory enough.
+pub fn excess(room: &Room, kept: &Kept, node: usize, sum: Sum) -> String {
     let row = &room.nodes[node];
+    let usable = if kept.is_some() { " usable" } else { "" };
     if memory_within(room, node, sum) {
-        format!("CPU {} of {}", sum.cpu, row.cpu)
+        format!("CPU {} of {}{usable}", sum.cpu, row.cpu)
     } else {
-        format!("memory {} of {}", sum.memory, row.memory)
+        format!("memory {} of {}{usable}", sum.memory, row.memory)
     }
 }
 

@@ -1,6 +1,7 @@
 //! What each frame of the page shows: which VMs stand on which node or on none, and how.
 
 use super::blame::Blame;
+use super::kept::Kept;
 use super::words::{behind, many, moves, stranger, Spent};
 use crate::records::{on_a_node, Move, Room, Step, NOWHERE};
 use crate::rules::{cpu_within, Placement, Sum, Verdict};
@@ -110,7 +111,12 @@ impl Frame {
 }
 
 /// The start, each step with all its moves running, and the end. A refused step is the last.
-pub fn frames(room: &Room, steps: &[Step], verdict: Verdict) -> Result<Vec<Frame>, String> {
+pub fn frames(
+    room: &Room,
+    kept: &Kept,
+    steps: &[Step],
+    verdict: Verdict,
+) -> Result<Vec<Frame>, String> {
     let (number, refused) = match verdict {
         Verdict::Accepted { .. } => (0, 0),
         Verdict::Refused { number, step } => (number, usize::from(step)),
@@ -129,7 +135,7 @@ pub fn frames(room: &Room, steps: &[Step], verdict: Verdict) -> Result<Vec<Frame
         frame.notes = vec![moves(room, &here, step)];
         if i + 1 == refused {
             frame.refuse(number);
-            frame.blame = Blame::of(room, &here, step, number);
+            frame.blame = Blame::of(room, kept, &here, step, number);
             frame.notes.extend(frame.blame.notes());
             frame.notes.extend(behind(steps.len() - refused));
         } else {

@@ -85,7 +85,8 @@ impl Look {
     }
 }
 
-/// The most that any node of a page holds, and the most that any has, of memory and CPU each.
+/// The most that any node of a page holds, and the most that any has, usable or kept, of memory and CPU
+/// each.
 #[derive(Clone, Debug)]
 pub struct Scale {
     held: Sum,

@@ -5,6 +5,7 @@ mod arrows;
 mod bar;
 mod blame;
 mod frame;
+mod kept;
 mod label;
 mod look;
 mod node;
@@ -16,9 +17,10 @@ mod words;
 use crate::form::constraint_line;
 use crate::reasons::reason;
 use crate::records::{cluster_bytes, plan_bytes, Plan, Room, Step};
-use crate::rules::{check, Verdict};
+use crate::rules::{check, reserve_fault, usable_room, Verdict};
 use crate::text::verdict_text;
 use frame::{frames, is_pivot, Frame};
+use kept::Kept;
 use look::{Scale, NARROW, TALL};
 use words::many;
 
@@ -58,21 +60,30 @@ pub enum Whose {
     Checker,
 }
 
-/// Draws a plan. The error is a sentence, if some step does not fit the cluster (fault 15).
-pub fn page(room: &Room, plan: &Plan, whose: Whose) -> Result<String, String> {
+/// Draws a plan at a reserve. The error is a sentence, if the reserve is too high (fault 23) or some
+/// step does not fit the cluster (fault 15).
+pub fn page(reserve: u64, whole: &Room, plan: &Plan, whose: Whose) -> Result<String, String> {
+    if let Some(number) = reserve_fault(reserve) {
+        return Err(reason(number).into());
+    }
     let steps = &plan.steps;
-    let verdict = check(&cluster_bytes(room), &plan_bytes(plan));
-    let frames = frames(room, steps, verdict)?;
-    let scale = Scale::of(room, &frames);
-    let figures: String = frames.iter().map(|frame| figure(room, &scale, frame)).collect();
-    let headline = headline(steps, verdict);
+    let verdict = check(reserve, &cluster_bytes(whole), &plan_bytes(plan));
+    let room = &usable_room(reserve, whole);
+    let kept = &Kept::of(reserve, whole, room);
+    let frames = frames(room, kept, steps, verdict)?;
+    let scale = Scale::of(whole, &frames);
+    let figures: String = frames.iter().map(|frame| figure(room, kept, &scale, frame)).collect();
+    let headline = headline(steps, verdict) + &kept.headline();
     let print = if room.nodes.len() <= NARROW { SMALL } else { LARGE };
-    let about = about(room, &frames) + &verdict_words(verdict, whose) + &constraints(room);
+    let verdict = verdict_words(room, kept, verdict, whose);
+    let about = about(room, &frames) + &kept.words() + &verdict + &constraints(room);
+    let legend = kept.legend(LEGEND);
     let reading = reading(room, steps, &frames);
+    let kept = kept.style();
     Ok(format!(
         "<!DOCTYPE html>\n<html lang=\"en\">\n<head>\n<meta charset=\"utf-8\"/>\n\
-         <title>{headline}</title>\n<style>\n{STYLE}{print}</style>\n</head>\n<body>\n\
-         <h1>{headline}</h1>\n{about}{LEGEND}{reading}<main>\n{figures}</main>\n</body>\n</html>\n"
+         <title>{headline}</title>\n<style>\n{STYLE}{kept}{print}</style>\n</head>\n<body>\n\
+         <h1>{headline}</h1>\n{about}{legend}{reading}<main>\n{figures}</main>\n</body>\n</html>\n"
     ))
 }
 
@@ -98,7 +109,7 @@ fn about(room: &Room, frames: &[Frame]) -> String {
 }
 
 /// The line of the verdict, whose it is, and what a refusal means.
-fn verdict_words(verdict: Verdict, whose: Whose) -> String {
+fn verdict_words(room: &Room, kept: &Kept, verdict: Verdict, whose: Whose) -> String {
     let whose = match whose {
         Whose::Model => "Verdict of the Rust model, not of the proved checker",
         Whose::Checker => "Verdict of the proved checker",
@@ -107,7 +118,8 @@ fn verdict_words(verdict: Verdict, whose: Whose) -> String {
     let why = match verdict {
         Verdict::Accepted { .. } => "",
         Verdict::Refused { number: number @ ..15, .. } => {
-            &format!(" {} The steps are drawn as they stand, unchecked.", reason(number))
+            let (why, target) = (reason(number), kept.target_words(room));
+            &format!(" {why}{target} The steps are drawn as they stand, unchecked.")
         }
         Verdict::Refused { number, .. } => &format!(" {}", reason(number)),
     };
@@ -144,12 +156,12 @@ fn reading(room: &Room, steps: &[Step], frames: &[Frame]) -> String {
     format!("<p class=\"reading\">{said}</p>\n")
 }
 
-fn figure(room: &Room, scale: &Scale, frame: &Frame) -> String {
+fn figure(room: &Room, kept: &Kept, scale: &Scale, frame: &Frame) -> String {
     let kind = if frame.refused { "refused" } else { "fine" };
     let tall = if frame.shown.len() > TALL { " tall" } else { "" };
     let Frame { title, notes, .. } = frame;
     let notes: String = notes.iter().map(|note| format!("<p>{note}</p>\n")).collect();
-    let drawing = node::drawing(room, scale, frame);
+    let drawing = node::drawing(room, kept, scale, frame);
     format!(
         "<figure class=\"{kind}{tall}\">\n<figcaption><h2>{title}</h2>\n{notes}</figcaption>\n\
          {drawing}</figure>\n"

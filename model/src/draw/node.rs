@@ -2,6 +2,7 @@
 
 use super::arrows::arrows;
 use super::frame::{Block, Frame, Role};
+use super::kept::Kept;
 use super::look::{Look, Scale, NARROW};
 use super::picture::{Drawn, Picture};
 use super::svg::{rect, text, Area};
@@ -13,10 +14,10 @@ use crate::records::{Room, Vm};
 const MOST_ARROWS: usize = 6;
 
 /// The drawing of a frame, row by row, so that a tall one may go on on another sheet.
-pub fn drawing(room: &Room, scale: &Scale, frame: &Frame) -> String {
+pub fn drawing(room: &Room, kept: &Kept, scale: &Scale, frame: &Frame) -> String {
     let look = &Look::of(frame.shown.len(), scale);
     let rows = frame.shown.chunks(look.per_row);
-    rows.map(|row| Picture { room, frame, row, scale, look }.drawing()).collect()
+    rows.map(|row| Picture { room, kept, frame, row, scale, look }.drawing()).collect()
 }
 
 impl Picture<'_> {
@@ -47,7 +48,7 @@ impl Picture<'_> {
             out += &rect("blamed", self.around(node), "");
         }
         for bar in [&memory, &cpu] {
-            out += &rect("room", bar.up_to(bar.capacity), "");
+            out += &bar.ground();
         }
         out += &self.block_shapes(node, &blocks, |vms| tip(self.room, vms));
         out += &self.block_shapes(node, &self.stack(node, &cpu, |vm| vm.cpu), |_| String::new());
@@ -117,7 +118,7 @@ impl Picture<'_> {
         out
     }
 
-    /// The number of a node, what is on it, and whether that is too much.
+    /// The number of a node, what is on it and whether that is too much, and what is kept.
     fn words(&self, node: usize) -> String {
         let Look { font, column, nouns, .. } = *self.look;
         let (row, sum) = (&self.room.nodes[node], self.frame.sum(self.room, node));
@@ -131,6 +132,7 @@ impl Picture<'_> {
             amount("memory ", sum.memory, row.memory),
             amount("CPU ", sum.cpu, row.cpu),
         ];
+        lines.extend(self.kept.line(node).map(|words| ("kept", words)));
         if self.frame.blame.has_place(node) {
             lines.push(("overfull", self.frame.blame.word.into()));
         }
@@ -142,7 +144,8 @@ impl Picture<'_> {
             out += &text(class, (x, y), font, column - 6.0, words);
         }
         if sum.memory > row.memory || sum.cpu > row.cpu {
-            let bar = self.memory_bar(node).up_to(sum.memory.max(row.memory));
+            let whole = row.memory + self.kept.node(node).memory;
+            let bar = self.memory_bar(node).up_to(sum.memory.max(whole));
             let at = (bar.middle().0, bar.top() - 0.5 * font);
             out += &text("overfull", at, font, column - 6.0, "OVERFULL");
         }

@@ -2,6 +2,7 @@
 
 use super::bar::Bar;
 use super::frame::{Block, Frame, Role};
+use super::kept::Kept;
 use super::label::Label;
 use super::look::{Look, Scale, LINES};
 use super::svg::Area;
@@ -13,6 +14,7 @@ pub type Drawn = (Block, Area);
 /// A row of a frame's nodes that is being drawn.
 pub struct Picture<'a> {
     pub room: &'a Room,
+    pub kept: &'a Kept,
     pub frame: &'a Frame,
     pub row: &'a [usize],
     pub scale: &'a Scale,
@@ -40,7 +42,8 @@ impl Picture<'_> {
     }
 
     fn below_words(&self, node: usize) -> f64 {
-        self.look.below(LINES + usize::from(self.frame.blame.has_place(node)))
+        let more = [self.kept.is_some(), self.frame.blame.has_place(node)];
+        self.look.below(LINES + more.into_iter().filter(|&more| more).count())
     }
 
     /// The left end of a node's bars and the line they stand on.
@@ -52,14 +55,16 @@ impl Picture<'_> {
     pub fn memory_bar(&self, node: usize) -> Bar {
         let (left, bottom) = self.foot(node);
         let area = Area { left, bottom, width: self.look.bar, height: self.look.height };
-        Bar { area, most: self.scale.memory(), capacity: self.room.nodes[node].memory }
+        let (has, kept) = (&self.room.nodes[node], self.kept.node(node));
+        Bar { area, most: self.scale.memory(), capacity: has.memory, kept: kept.memory }
     }
 
     pub fn cpu_bar(&self, node: usize) -> Bar {
         let (left, bottom) = self.foot(node);
         let left = left + self.look.bar + self.look.gap;
         let area = Area { left, bottom, width: self.look.cpu_bar, height: self.look.height };
-        Bar { area, most: self.scale.cpu(), capacity: self.room.nodes[node].cpu }
+        let (has, kept) = (&self.room.nodes[node], self.kept.node(node));
+        Bar { area, most: self.scale.cpu(), capacity: has.cpu, kept: kept.cpu }
     }
 
     /// The blocks of a node one on the other, as high as the memory they take.

@@ -3,7 +3,7 @@
 
 use kobdrieft_model::edges::steps;
 use kobdrieft_model::planner::make_steps;
-use kobdrieft_model::rules::{accepted_cluster, check_steps};
+use kobdrieft_model::rules::accepted_cluster;
 use kobdrieft_model::*;
 
 /// The place of a VM on no node.
@@ -26,19 +26,51 @@ pub fn accepted(cost: u64) -> Verdict {
     Verdict::Accepted { cost }
 }
 
+/// The number of a refusal, or 0 for accepted.
+pub fn number_of(verdict: Verdict) -> usize {
+    match verdict {
+        Verdict::Accepted { .. } => 0,
+        Verdict::Refused { number, .. } => usize::from(number),
+    }
+}
+
 /// The one verdict on steps in both versions, with the right sources named in version 2.
 pub fn checked(room: &Room, plan: Rows) -> Verdict {
-    let (cluster, steps) = (cluster_bytes(room), steps(plan));
-    let verdict = check(&cluster, &plan_bytes(&bare(&steps)));
-    assert_eq!(check(&cluster, &plan_bytes(&named(room, &steps))), verdict);
+    checked_at(0, room, plan)
+}
+
+/// The same at a reserve.
+pub fn checked_at(reserve: u64, room: &Room, plan: Rows) -> Verdict {
+    steps_checked_at(reserve, room, &steps(plan))
+}
+
+/// The same of steps.
+pub fn steps_checked_at(reserve: u64, room: &Room, steps: &[Step]) -> Verdict {
+    let cluster = cluster_bytes(room);
+    let verdict = check(reserve, &cluster, &plan_bytes(&bare(steps)));
+    assert_eq!(check(reserve, &cluster, &plan_bytes(&named(room, steps))), verdict);
     verdict
 }
 
 /// The planner's steps for a room that is accepted, which the checker takes, or refuses with 19.
 pub fn steps_for(room: &Room) -> (Vec<Step>, bool) {
-    assert!(accepted_cluster(&cluster_bytes(room)).is_ok());
-    let (steps, all_home) = make_steps(room);
-    let verdict = check_steps(room, &steps);
-    assert_eq!(matches!(verdict, Verdict::Accepted { .. }), all_home, "{verdict:?}");
+    steps_at(0, room)
+}
+
+/// The same at a reserve.
+pub fn steps_at(reserve: u64, room: &Room) -> (Vec<Step>, bool) {
+    let usable = accepted_cluster(reserve, &cluster_bytes(room)).expect("an accepted cluster");
+    let (steps, all_home) = make_steps(&usable);
+    match steps_checked_at(reserve, room, &steps) {
+        Verdict::Accepted { .. } => assert!(all_home),
+        verdict => assert_eq!((verdict, all_home), (refused(19, 0), false)),
+    }
     (steps, all_home)
+}
+
+/// What must be on a page.
+pub fn has(page: &str, all: &[&str]) {
+    for words in all {
+        assert!(page.contains(words), "{words}");
+    }
 }

@@ -1,4 +1,4 @@
-use Rattle.files.proofs.Laws.{front-part, front-all}
+use Rattle.files.proofs.Laws.Front.{front-part, front-all}
 use borrow.Author.Needs.{needs}
 use Rattle.files.proofs.front.Statement.{statement}
 use Rattle.files.proofs.front.Tie as tie

@@ -13,11 +13,12 @@ use borrow.Author.Tests.{ltb-true, lt-ltb, eq-eqb, ne-eqb}
 use mir.Syntax.{w64}
 use mir.Val.{Fits}
 use Rattle.records.specs.Base.{pick, all}
-use Rattle.records.specs.Room.{Room, roomOf, vmOf, nodeOf, nodeCount, vmCount, placeOk, clusterCheck}
+use Rattle.records.specs.Room.{Room, atReserve, roomOf, roomAt, vmOf, nodeOf, nodeCount, vmCount, placeOk, clusterCheck}
 use Rattle.records.specs.Plan.{Step}
 use Rattle.records.specs.declared.faults.ClusterCheck.the-variants.{Whole}
 use Rattle.records.proofs.Laws.Bools.{all-head, all-tail}
-use Rattle.records.proofs.Laws.Cluster.{nodes-most, vms-most, vms-count}
+use Rattle.records.proofs.Laws.Cluster.{nodes-most, vms-most}
+use Rattle.records.proofs.Laws.Reserve.{room-vms}
 use Rattle.records.proofs.Laws.Rows.{place-node, node-on, near-node, far-off}
 use Rattle.rules.specs.Moments.{bears, bearsAt, withVm, tallyAt, firstMoment, allRunning}
 use Rattle.rules.specs.Orders.{meetsMate}
@@ -26,8 +27,9 @@ use Rattle.rules.specs.Inner.{NeedOf, held, destsFrom, busyFrom, Allows}
 use Rattle.rules.specs.declared.tally.Need.{Need}
 use Rattle.rules.specs.declared.tally.Tally.{Tally}
 use Rattle.rules.proofs.Laws.Bears.{at-node}
+use Rattle.rules.proofs.Laws.Reserve.{vm-same, aims-same, allowed-same, meets-same, need-same}
 use Rattle.rules.proofs.Laws.Adding.{eqb-sym, joins, adding}
-use Rattle.rules.proofs.Laws.Fit.{aims-place, held-at, running-is}
+use Rattle.rules.proofs.Laws.Fit.{aims-place, held-at, running-at}
 use Rattle.rules.proofs.Laws.Sound.{sound-named}
 use Rattle.planner.specs.Picks.{moving}
 use Rattle.planner.specs.Inner.{joinsIn, goalOf}
@@ -69,12 +71,14 @@ pub with-is : (room : Room) (v : ℕ) (need : Need) (here sum : Tally) → sum �
     NeedOf room v need → sum ≡ withVm here (vmOf room v)
 with-is room v need here sum e n = e ∙ (λ i. record { memory = here .memory + n .memory i; cpu = here .cpu + n .cpu i })
 
-pub with-fits : (room : Room) (v d : ℕ) (need : Need) (here sum : Tally) (ok : Bool) → sum ≡ record { memory = here .memory + need .memory; cpu = here .cpu + need .cpu } →
-    ok ≡ bears (nodeOf room d) sum (vmOf room v) → NeedOf room v need → ok ≡ bears (nodeOf room d) (withVm here (vmOf room v)) (vmOf room v)
-with-fits room v d need here sum ok e o n = o ∙ ap (λ (x : Tally). bears (nodeOf room d) x (vmOf room v)) (with-is room v need here sum e n)
+pub with-fits : (reserve : ℕ) (room : Room) (v d : ℕ) (need : Need) (here sum : Tally) (ok : Bool) → sum ≡ record { memory = here .memory + need .memory; cpu = here .cpu + need .cpu } →
+    ok ≡ bears (nodeOf (atReserve reserve room) d) sum (vmOf (atReserve reserve room) v) → NeedOf room v need →
+    ok ≡ bears (nodeOf (atReserve reserve room) d) (withVm here (vmOf (atReserve reserve room) v)) (vmOf (atReserve reserve room) v)
+with-fits reserve room v d need here sum ok e o n =
+    o ∙ ap (λ (x : Tally). bears (nodeOf (atReserve reserve room) d) x (vmOf (atReserve reserve room) v)) (with-is (atReserve reserve room) v need here sum e (need-same reserve room v need n))
 
-module _ (s places dests : List ℕ) (here : Tally) (v d : ℕ) where
-  pub join-stays : (p : ℕ) → p ≡ getD places v 0 → p ≡ d → false ≡ joinsIn s places dests here v d
+module _ (reserve : ℕ) (s places dests : List ℕ) (here : Tally) (v d : ℕ) where
+  pub join-stays : (p : ℕ) → p ≡ getD places v 0 → p ≡ d → false ≡ joinsIn reserve s places dests here v d
   unfolding joinsIn
   join-stays p e f = rw (eq-eqb (getD places v 0) d (sym e ∙ f))
 
@@ -83,51 +87,54 @@ module _ (s places dests : List ℕ) (here : Tally) (v d : ℕ) where
     leaves = ne-eqb (getD places v 0) d (λ x. f (e ∙ x))
 
     -- to no node nothing is asked
-    pub join-off : clusterCheck s ≡ Whole → placeOk true (nodeCount s) d ≡ true → 64 ≤ d → true ≡ joinsIn s places dests here v d
+    pub join-off : clusterCheck s ≡ Whole → placeOk true (nodeCount s) d ≡ true → 64 ≤ d → true ≡ joinsIn reserve s places dests here v d
     unfolding joinsIn allowed bearsAt meetsMate
     join-off w a h = rw (leaves, far-off (nodeCount s) d (nodes-most s w) a h)
 
     module _ (table : List ℕ) (a : Allows s table) (w : clusterCheck s ≡ Whole) (t : v < vmCount s) (n : d < nodeCount s) where
-      marked : getD table (v * 64 + d) 0 ≡ pick (allowed (roomOf s) v d) 1 0
-      marked = let b = nodes-most s w in a .each v d t (omega arith)
+      marked : getD table (v * 64 + d) 0 ≡ pick (allowed (roomAt reserve s) v d) 1 0
+      marked = let b = nodes-most s w in rw (allowed-same reserve (roomOf s) v d) (a .each v d t (omega arith))
 
-      pub join-kept : getD table (v * 64 + d) 0 ≡ 0 → false ≡ joinsIn s places dests here v d
+      pub join-kept : getD table (v * 64 + d) 0 ≡ 0 → false ≡ joinsIn reserve s places dests here v d
       unfolding joinsIn
-      join-kept z = go (allowed (roomOf s) v d) refl
+      join-kept z = go (allowed (roomAt reserve s) v d) refl
         where
-          go : (x : Bool) → allowed (roomOf s) v d ≡ x → false ≡ joinsIn s places dests here v d
+          go : (x : Bool) → allowed (roomAt reserve s) v d ≡ x → false ≡ joinsIn reserve s places dests here v d
           go true q = absurd (let k : getD table (v * 64 + d) 0 ≡ 1 = marked ∙ ap (λ (b : Bool). pick b 1 0) q in omega arith)
           go false q = rw (leaves, q)
 
-      is-allowed : (getD table (v * 64 + d) 0 ≡ 0 → ⊥) → allowed (roomOf s) v d ≡ true
-      is-allowed z = go (allowed (roomOf s) v d) refl
+      is-allowed : (getD table (v * 64 + d) 0 ≡ 0 → ⊥) → allowed (roomAt reserve s) v d ≡ true
+      is-allowed z = go (allowed (roomAt reserve s) v d) refl
         where
-          go : (x : Bool) → allowed (roomOf s) v d ≡ x → allowed (roomOf s) v d ≡ true
+          go : (x : Bool) → allowed (roomAt reserve s) v d ≡ x → allowed (roomAt reserve s) v d ≡ true
           go true q = q
           go false q = absurd (z (marked ∙ ap (λ (b : Bool). pick b 1 0) q))
 
       module _ (z : getD table (v * 64 + d) 0 ≡ 0 → ⊥) (ok : Bool)
-          (o : ok ≡ bears (nodeOf (roomOf s) d) (withVm here (vmOf (roomOf s) v)) (vmOf (roomOf s) v)) where
-        bears-is : bearsAt (roomOf s) d (withVm here (vmOf (roomOf s) v)) (vmOf (roomOf s) v) ≡ ok
-        bears-is = at-node (roomOf s) d (withVm here (vmOf (roomOf s) v)) (vmOf (roomOf s) v) (node-on (nodeCount s) d (nodes-most s w) n) ∙ sym o
+          (o : ok ≡ bears (nodeOf (roomAt reserve s) d) (withVm here (vmOf (roomAt reserve s) v)) (vmOf (roomAt reserve s) v)) where
+        bears-is : bearsAt (roomAt reserve s) d (withVm here (vmOf (roomAt reserve s) v)) (vmOf (roomAt reserve s) v) ≡ ok
+        bears-is = at-node (roomAt reserve s) d (withVm here (vmOf (roomAt reserve s) v)) (vmOf (roomAt reserve s) v) (node-on (nodeCount s) d (nodes-most s w) n) ∙ sym o
 
-        pub join-full : ok ≡ false → false ≡ joinsIn s places dests here v d
+        pub join-full : ok ≡ false → false ≡ joinsIn reserve s places dests here v d
         unfolding joinsIn
         join-full q = rw (leaves, is-allowed z, bears-is ∙ q)
 
-        pub join-met : (met : Bool) → met ≡ meetsMate (roomOf s) (busyFrom places dests 0 (vmCount s)) v d → ok ≡ true → not met ≡ joinsIn s places dests here v d
+        pub join-met : (met : Bool) → met ≡ meetsMate (roomOf s) (busyFrom places dests 0 (vmCount s)) v d → ok ≡ true → not met ≡ joinsIn reserve s places dests here v d
         unfolding joinsIn
-        join-met met x q = rw (leaves, is-allowed z, bears-is ∙ q, x)
+        join-met met x q = rw (leaves, is-allowed z, bears-is ∙ q, x, meets-same reserve (roomOf s))
 
 -- where a VM goes
-module _ (s places dests : List ℕ) (here : Tally) (v to : ℕ) (ok : Bool) (e : to ≡ vmOf (roomOf s) v .target) (o : ok ≡ joinsIn s places dests here v to) where
-  pub goal-target : ok ≡ true → to ≡ goalOf s places dests here v
-  unfolding goalOf
-  goal-target q = let x : joinsIn s places dests here v (vmOf (roomOf s) v .target) ≡ true = ap (joinsIn s places dests here v) (sym e) ∙ sym o ∙ q in rw (x, e)
+module _ (reserve : ℕ) (s places dests : List ℕ) (here : Tally) (v to : ℕ) (ok : Bool) (f : to ≡ vmOf (roomOf s) v .target) (o : ok ≡ joinsIn reserve s places dests here v to) where
+  e : to ≡ vmOf (roomAt reserve s) v .target
+  e = rw (vm-same reserve (roomOf s) v) f
 
-  pub goal-none : ok ≡ false → 64 ≡ goalOf s places dests here v
+  pub goal-target : ok ≡ true → to ≡ goalOf reserve s places dests here v
   unfolding goalOf
-  goal-none q = let x : joinsIn s places dests here v (vmOf (roomOf s) v .target) ≡ false = ap (joinsIn s places dests here v) (sym e) ∙ sym o ∙ q in rw x
+  goal-target q = let x : joinsIn reserve s places dests here v (vmOf (roomAt reserve s) v .target) ≡ true = ap (joinsIn reserve s places dests here v) (sym e) ∙ sym o ∙ q in rw (x, e)
+
+  pub goal-none : ok ≡ false → 64 ≡ goalOf reserve s places dests here v
+  unfolding goalOf
+  goal-none q = let x : joinsIn reserve s places dests here v (vmOf (roomAt reserve s) v .target) ≡ false = ap (joinsIn reserve s places dests here v) (sym e) ∙ sym o ∙ q in rw x
 
 -- ---- the step with one move more
 
@@ -150,31 +157,31 @@ dests-above (move ∷ moves) v h a =
     getD-set-other (destsFrom moves) (move .vm) v (move .to) 0 (λ e. omega arith) ∙ dests-above moves v h (all-tail (λ m. ltb (m .vm) v) move moves a)
 
 -- what the arrays give is what the step gives
-module _ (s places dests : List ℕ) (step : Step) (here : Tally) (v d : ℕ) (w : clusterCheck s ≡ Whole) (q : dests ≡ destsFrom step)
-    (sound : soundStep (roomOf s) (held s places) step ≡ true)
-    (h : d < 64 → here ≡ tallyAt (roomOf s) d (allRunning (firstMoment (roomOf s) (held s places) step))) (t : v < vmCount s) (n : aims (roomOf s) v d ≡ true) where
+module _ (reserve : ℕ) (s places dests : List ℕ) (step : Step) (here : Tally) (v d : ℕ) (w : clusterCheck s ≡ Whole) (q : dests ≡ destsFrom step)
+    (sound : soundStep (roomAt reserve s) (held s places) step ≡ true)
+    (h : d < 64 → here ≡ tallyAt (roomAt reserve s) d (allRunning (firstMoment (roomAt reserve s) (held s places) step))) (t : v < vmCount s) (n : aims (roomAt reserve s) v d ≡ true) where
   -- the tally of what is no node is not asked for
-  same-bears : bearsAt (roomOf s) d (withVm here (vmOf (roomOf s) v)) (vmOf (roomOf s) v) ≡
-      bearsAt (roomOf s) d (withVm (tallyAt (roomOf s) d (allRunning (firstMoment (roomOf s) (held s places) step))) (vmOf (roomOf s) v)) (vmOf (roomOf s) v)
+  same-bears : bearsAt (roomAt reserve s) d (withVm here (vmOf (roomAt reserve s) v)) (vmOf (roomAt reserve s) v) ≡
+      bearsAt (roomAt reserve s) d (withVm (tallyAt (roomAt reserve s) d (allRunning (firstMoment (roomAt reserve s) (held s places) step))) (vmOf (roomAt reserve s) v)) (vmOf (roomAt reserve s) v)
   unfolding bearsAt
   same-bears =
-      by-cases (decLt d 64) (λ l. ap (λ (x : Tally). bearsAt (roomOf s) d (withVm x (vmOf (roomOf s) v)) (vmOf (roomOf s) v)) (h l))
-      (λ l. rw (far-off (nodeCount s) d (nodes-most s w) (aims-place s v d n) (omega arith)))
+      by-cases (decLt d 64) (λ l. ap (λ (x : Tally). bearsAt (roomAt reserve s) d (withVm x (vmOf (roomAt reserve s) v)) (vmOf (roomAt reserve s) v)) (h l))
+      (λ l. rw (far-off (nodeCount s) d (nodes-most s w) (aims-place s v d (sym (aims-same reserve (roomOf s) v d) ∙ n)) (omega arith)))
 
-  pub joins-is : joinsIn s places dests here v d ≡ joins (roomOf s) (held s places) step v d
+  pub joins-is : joinsIn reserve s places dests here v d ≡ joins (roomAt reserve s) (held s places) step v d
   unfolding joinsIn joins
   joins-is =
-      let vms = vms-count s in
+      let vms = room-vms reserve s in
       rw (
-        lt-ltb v (length (roomOf s .vms)) (omega arith),
+        lt-ltb v (length (roomAt reserve s .vms)) (omega arith),
         n,
         held-at s places v t,
         eqb-sym d (getD places v 0),
         same-bears,
         q,
-        running-is s places step w (sound-named (roomOf s) (held s places) step sound),
+        running-at reserve s places step w (sound-named (roomAt reserve s) (held s places) step sound),
       )
 
   module _ (a : all (λ move. ltb (move .vm) v) step ≡ true) where
-    pub longer-sound : soundStep (roomOf s) (held s places) (step ++ (moving v d ∷ [])) ≡ joinsIn s places dests here v d
-    longer-sound = adding (roomOf s) (held s places) step v d sound a ∙ sym joins-is
+    pub longer-sound : soundStep (roomAt reserve s) (held s places) (step ++ (moving v d ∷ [])) ≡ joinsIn reserve s places dests here v d
+    longer-sound = adding (roomAt reserve s) (held s places) step v d sound a ∙ sym joins-is

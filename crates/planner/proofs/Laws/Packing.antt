@@ -34,6 +34,7 @@ refused-packed a f n e g = rw (e, g)
 -- ---- taking it apart
 
 number-most : (f : BuildFault) → buildNumber f < 256
+number-most BuildFault.Reserve = omega arith
 number-most (BuildFault.Cluster ClusterFault.TooShort) = omega arith
 number-most (BuildFault.Cluster ClusterFault.Version) = omega arith
 number-most (BuildFault.Cluster ClusterFault.Length) = omega arith

@@ -13,20 +13,22 @@ use lib.Seq.{set-getD, getD-set-same, getD-set-other}
 use lib.Dec.{ltb, eqb}
 use borrow.Author.Tests.{lt-ltb, ltb-true, eq-eqb, ne-eqb, eqb-false, not-true}
 use Rattle.records.specs.Base.{pick, all}
-use Rattle.records.specs.Room.{roomOf, vmOf, nowhere, nodeCount, vmCount, clusterCheck}
+use Rattle.records.specs.Room.{roomOf, roomAt, vmOf, nowhere, nodeCount, vmCount, clusterCheck}
 use Rattle.records.specs.Plan.{Step}
 use Rattle.records.specs.declared.faults.ClusterCheck.the-variants.{Whole}
 use Rattle.records.proofs.Laws.Bools.{and-both}
-use Rattle.records.proofs.Laws.Cluster.{vms-most, vms-count, nodes-count, vm-target-place}
+use Rattle.records.proofs.Laws.Cluster.{vms-most, vm-target-place}
+use Rattle.records.proofs.Laws.Reserve.{room-nodes, room-vms}
 use Rattle.records.proofs.Laws.Rows.{place-either}
 use Rattle.rules.specs.Moments.{placeOf, targetOf, emptyTally, withVm, tallyAt, firstMoment, allRunning}
 use Rattle.rules.specs.Rules.{from, aims, soundStep}
 use Rattle.rules.specs.Inner.{NeedOf, held, destsFrom, busyFrom, Loads}
 use Rattle.rules.specs.declared.tally.Need.{Need}
 use Rattle.rules.specs.declared.tally.Tally.{Tally}
+use Rattle.rules.proofs.Laws.Reserve.{vm-same, need-same, moment-same, tally-same}
 use Rattle.rules.proofs.Laws.Adding.{joins, Joins, joins-tests, empty-sound, all-snoc, tally-there, tally-else}
 use Rattle.rules.proofs.Laws.Fit.{running-is}
-use Rattle.rules.proofs.Laws.Places.{target-at}
+use Rattle.rules.proofs.Laws.Places.{target-there}
 use Rattle.rules.proofs.Laws.Sound.{all-more}
 use Rattle.rules.proofs.Laws.Targets.{no-moves, dests-none}
 use Rattle.planner.specs.Picks.{moving, away, joined, joinedAll, directStep}
@@ -34,14 +36,14 @@ use Rattle.planner.specs.Inner.{Light, joinsIn, goalOf}
 use Rattle.planner.proofs.Laws.Joining.{with-is, dests-longer, dests-above, joins-is, longer-sound}
 
 -- before VM v: the step of the VMs below it, its destinations and its sums, and what is still to be joined
-pub record Directing (s places dests : List ℕ) (v : ℕ) (sums : List Tally) : Type 0 where
+pub record Directing (reserve : ℕ) (s places dests : List ℕ) (v : ℕ) (sums : List Tally) : Type 0 where
   pub step : Step
   pub array : dests ≡ destsFrom step
-  pub sound : soundStep (roomOf s) (held s places) step ≡ true
+  pub sound : soundStep (roomAt reserve s) (held s places) step ≡ true
   pub below : all (λ move. ltb (move .vm) v) step ≡ true
-  pub left : joinedAll (roomOf s) (held s places) step (from v (vmCount s - v)) ≡ directStep (roomOf s) (held s places)
+  pub left : joinedAll (roomAt reserve s) (held s places) step (from v (vmCount s - v)) ≡ directStep (roomAt reserve s) (held s places)
   pub size : length sums ≡ 256
-  pub each : (d : ℕ) → d < 64 → getD sums d emptyTally ≡ tallyAt (roomOf s) d (allRunning (firstMoment (roomOf s) (held s places) step))
+  pub each : (d : ℕ) → d < 64 → getD sums d emptyTally ≡ tallyAt (roomAt reserve s) d (allRunning (firstMoment (roomAt reserve s) (held s places) step))
   pub memory-most : (d : ℕ) → getD sums d emptyTally .memory ≤ (vmCount s + v) * 33554432
   pub cpu-most : (d : ℕ) → getD sums d emptyTally .cpu ≤ (vmCount s + v) * 131072
 
@@ -54,19 +56,19 @@ rest-tally s places dests sums d e l w h =
     l .each d h ∙ ap (λ (x : List ℕ). tallyAt (roomOf s) d (busyFrom places x 0 (vmCount s))) (e ∙ sym dests-none) ∙
     ap (tallyAt (roomOf s) d) (running-is s places [] w (no-moves s places))
 
-pub directing-start : (s places dests : List ℕ) (sums : List Tally) → dests ≡ replicate 256 64 → Loads s places dests sums → clusterCheck s ≡ Whole →
-    Directing s places dests 0 sums
+pub directing-start : (reserve : ℕ) (s places dests : List ℕ) (sums : List Tally) → dests ≡ replicate 256 64 → Loads s places dests sums → clusterCheck s ≡ Whole →
+    Directing reserve s places dests 0 sums
 unfolding directStep all
-directing-start s places dests sums e l w =
+directing-start reserve s places dests sums e l w =
     let z : vmCount s + 0 ≡ vmCount s = omega arith in
     record {
       step = [];
       array = e ∙ sym dests-none;
-      sound = empty-sound (roomOf s) (held s places);
+      sound = empty-sound (roomAt reserve s) (held s places);
       below = refl;
-      left = rw (sub-zero (vmCount s), vms-count s);
+      left = rw (sub-zero (vmCount s), room-vms reserve s);
       size = l .size;
-      each = λ d h. rest-tally s places dests sums d e l w h;
+      each = λ d h. rw (tally-same reserve (roomOf s), moment-same reserve (roomOf s) (held s places) []) (rest-tally s places dests sums d e l w h);
       memory-most = λ d. rw z (l .memory-most d);
       cpu-most = λ d. rw z (l .cpu-most d);
     }
@@ -92,41 +94,41 @@ module _ (sums : List Tally) (t : ℕ) (sum : Tally) (z : length sums ≡ 256) (
       (λ q. rw (ap (λ (k : ℕ). getD (set sums t sum) k emptyTally) q ∙ sum-at) m)
       (λ q. rw (getD-set-other sums t d sum emptyTally q) (let b = e d in omega arith))
 
-pub directing-light : (s places dests : List ℕ) (v : ℕ) (sums : List Tally) → Directing s places dests v sums → clusterCheck s ≡ Whole → v < vmCount s → (d : ℕ) →
+pub directing-light : (reserve : ℕ) (s places dests : List ℕ) (v : ℕ) (sums : List Tally) → Directing reserve s places dests v sums → clusterCheck s ≡ Whole → v < vmCount s → (d : ℕ) →
     Light (getD sums d emptyTally)
-directing-light s places dests v sums inv w h d =
+directing-light reserve s places dests v sums inv w h d =
     let m = vms-most s w in let a = inv .memory-most d in let b = inv .cpu-most d in record { memory = omega arith; cpu = omega arith }
 
-module _ (s places dests : List ℕ) (v d to : ℕ) (sums : List Tally) (inv : Directing s places dests v sums) (w : clusterCheck s ≡ Whole) (h : v < vmCount s)
-    (e : d ≡ vmOf (roomOf s) v .target) (g : to ≡ goalOf s places dests (getD sums d emptyTally) v) where
-  target-is : placeOf (targetOf (roomOf s)) v ≡ d
-  target-is = target-at (roomOf s) v ∙ sym e
+module _ (reserve : ℕ) (s places dests : List ℕ) (v d to : ℕ) (sums : List Tally) (inv : Directing reserve s places dests v sums) (w : clusterCheck s ≡ Whole) (h : v < vmCount s)
+    (e : d ≡ vmOf (roomOf s) v .target) (g : to ≡ goalOf reserve s places dests (getD sums d emptyTally) v) where
+  target-is : placeOf (targetOf (roomAt reserve s)) v ≡ d
+  target-is = target-there reserve s v ∙ sym e
 
   -- a VM can be sent to its target
-  aimed : aims (roomOf s) v d ≡ true
+  aimed : aims (roomAt reserve s) v d ≡ true
   unfolding aims
-  aimed = ⊎-elim (λ x. let c = nodes-count s in rw (lt-ltb d (length (roomOf s .nodes)) (omega arith)))
-      (λ x. rw (target-is, eq-eqb d nowhere x) (or-true (ltb d (length (roomOf s .nodes)))))
+  aimed = ⊎-elim (λ x. let c = room-nodes reserve s in rw (lt-ltb d (length (roomAt reserve s .nodes)) (omega arith)))
+      (λ x. rw (target-is, eq-eqb d nowhere x) (or-true (ltb d (length (roomAt reserve s .nodes)))))
       (place-either (nodeCount s) d (rw e (vm-target-place s v w h)))
 
-  tally-is : d < 64 → getD sums d emptyTally ≡ tallyAt (roomOf s) d (allRunning (firstMoment (roomOf s) (held s places) (inv .step)))
+  tally-is : d < 64 → getD sums d emptyTally ≡ tallyAt (roomAt reserve s) d (allRunning (firstMoment (roomAt reserve s) (held s places) (inv .step)))
   tally-is l = inv .each d l
 
   -- the whole step is sound with the move exactly if the move joins
-  test-is : soundStep (roomOf s) (held s places) (inv .step ++ (moving v d ∷ [])) ≡ joinsIn s places dests (getD sums d emptyTally) v d
-  test-is = longer-sound s places dests (inv .step) (getD sums d emptyTally) v d w (inv .array) (inv .sound) tally-is h aimed (inv .below)
+  test-is : soundStep (roomAt reserve s) (held s places) (inv .step ++ (moving v d ∷ [])) ≡ joinsIn reserve s places dests (getD sums d emptyTally) v d
+  test-is = longer-sound reserve s places dests (inv .step) (getD sums d emptyTally) v d w (inv .array) (inv .sound) tally-is h aimed (inv .below)
 
-  joined-is : joined (roomOf s) (held s places) (inv .step) v ≡
-      pick (not (eqb (placeOf (held s places) v) d) && soundStep (roomOf s) (held s places) (inv .step ++ (moving v d ∷ []))) (inv .step ++ (moving v d ∷ [])) (inv .step)
+  joined-is : joined (roomAt reserve s) (held s places) (inv .step) v ≡
+      pick (not (eqb (placeOf (held s places) v) d) && soundStep (roomAt reserve s) (held s places) (inv .step ++ (moving v d ∷ []))) (inv .step ++ (moving v d ∷ [])) (inv .step)
   unfolding joined away
   joined-is = rw target-is
 
-  goal-is : (b : Bool) → joinsIn s places dests (getD sums d emptyTally) v d ≡ b → to ≡ pick b d 64
+  goal-is : (b : Bool) → joinsIn reserve s places dests (getD sums d emptyTally) v d ≡ b → to ≡ pick b d 64
   unfolding goalOf
-  goal-is b q = g ∙ rw (← e, q)
+  goal-is b q = g ∙ rw (vm-same reserve (roomOf s) v, ← e, q)
 
-  next-left : (step : Step) → joined (roomOf s) (held s places) (inv .step) v ≡ step →
-      joinedAll (roomOf s) (held s places) step (from (v + 1) (vmCount s - (v + 1))) ≡ directStep (roomOf s) (held s places)
+  next-left : (step : Step) → joined (roomAt reserve s) (held s places) (inv .step) v ≡ step →
+      joinedAll (roomAt reserve s) (held s places) step (from (v + 1) (vmCount s - (v + 1))) ≡ directStep (roomAt reserve s) (held s places)
   unfolding joinedAll
   next-left step q = rw (← q) (rw (left-cons (vmCount s) v h) at (inv .left))
 
@@ -148,7 +150,7 @@ module _ (s places dests : List ℕ) (v d to : ℕ) (sums : List Tally) (inv : D
         sum-most sums to sum (inv .size) small (λ (r : Tally). r .cpu) ((vmCount s + (v + 1)) * 131072) ((vmCount s + v) * 131072) (omega arith) (omega arith) (inv .cpu-most)
 
     -- it joins
-    goes : joinsIn s places dests (getD sums d emptyTally) v d ≡ true → Directing s places (set dests v to) (v + 1) (set sums to sum)
+    goes : joinsIn reserve s places dests (getD sums d emptyTally) v d ≡ true → Directing reserve s places (set dests v to) (v + 1) (set sums to sum)
     unfolding joins
     goes q = record {
       step = inv .step ++ (moving v d ∷ []);
@@ -165,9 +167,9 @@ module _ (s places dests : List ℕ) (v d to : ℕ) (sums : List Tally) (inv : D
         to-d : to ≡ d
         to-d = goal-is true q
 
-        j : Joins (roomOf s) (held s places) (inv .step) v d
-        j = joins-tests (roomOf s) (held s places) (inv .step) v d
-            (sym (joins-is s places dests (inv .step) (getD sums d emptyTally) v d w (inv .array) (inv .sound) tally-is h aimed) ∙ q)
+        j : Joins (roomAt reserve s) (held s places) (inv .step) v d
+        j = joins-tests (roomAt reserve s) (held s places) (inv .step) v d
+            (sym (joins-is reserve s places dests (inv .step) (getD sums d emptyTally) v d w (inv .array) (inv .sound) tally-is h aimed) ∙ q)
 
         away-from : d ≡ placeOf (held s places) v → ⊥
         away-from = eqb-false d (placeOf (held s places) v) (not-true (eqb d (placeOf (held s places) v)) (j .off))
@@ -175,20 +177,20 @@ module _ (s places dests : List ℕ) (v d to : ℕ) (sums : List Tally) (inv : D
         off : eqb (placeOf (held s places) v) d ≡ false
         off = ne-eqb (placeOf (held s places) v) d (λ p. away-from (sym p))
 
-        each : (i : ℕ) → i < 64 → getD (set sums to sum) i emptyTally ≡ tallyAt (roomOf s) i (allRunning (firstMoment (roomOf s) (held s places) (inv .step ++ (moving v d ∷ []))))
+        each : (i : ℕ) → i < 64 → getD (set sums to sum) i emptyTally ≡ tallyAt (roomAt reserve s) i (allRunning (firstMoment (roomAt reserve s) (held s places) (inv .step ++ (moving v d ∷ []))))
         each i l =
             by-cases (ℕ-discrete i d)
             (λ p. let low : d < 64 = rw (← p) l in
             rw p
             (ap (λ (m : ℕ). getD (set sums m sum) d emptyTally) to-d ∙ getD-set-same sums d sum emptyTally (rw (inv .size) (omega arith)) ∙
-            with-is (roomOf s) v need (getD sums to emptyTally) sum z k ∙
-            ap (λ (r : Tally). withVm r (vmOf (roomOf s) v)) (ap (λ (m : ℕ). getD sums m emptyTally) to-d ∙ inv .each d low) ∙
-            sym (tally-there (roomOf s) (held s places) (inv .step) v d (inv .below) (j .vm-there) away-from)))
+            with-is (roomAt reserve s) v need (getD sums to emptyTally) sum z (need-same reserve (roomOf s) v need k) ∙
+            ap (λ (r : Tally). withVm r (vmOf (roomAt reserve s) v)) (ap (λ (m : ℕ). getD sums m emptyTally) to-d ∙ inv .each d low) ∙
+            sym (tally-there (roomAt reserve s) (held s places) (inv .step) v d (inv .below) (j .vm-there) away-from)))
             (λ p. getD-set-other sums to i sum emptyTally (λ m. p (m ∙ to-d)) ∙ inv .each i l ∙
-            sym (tally-else (roomOf s) (held s places) (inv .step) v d (inv .below) (j .vm-there) away-from i (λ m. p (sym m))))
+            sym (tally-else (roomAt reserve s) (held s places) (inv .step) v d (inv .below) (j .vm-there) away-from i (λ m. p (sym m))))
 
     -- it does not
-    stays : joinsIn s places dests (getD sums d emptyTally) v d ≡ false → Directing s places (set dests v to) (v + 1) (set sums to sum)
+    stays : joinsIn reserve s places dests (getD sums d emptyTally) v d ≡ false → Directing reserve s places (set dests v to) (v + 1) (set sums to sum)
     stays q = record {
       step = inv .step;
       array = ap (set dests v) (to-none ∙ sym free) ∙ set-getD dests v 0 ∙ inv .array;
@@ -207,27 +209,27 @@ module _ (s places dests : List ℕ) (v d to : ℕ) (sums : List Tally) (inv : D
         free : getD dests v 0 ≡ 64
         free = ap (λ (l : List ℕ). getD l v 0) (inv .array) ∙ dests-above (inv .step) v (let m = vms-most s w in omega arith) (inv .below)
 
-    turn-whole : Directing s places (set dests v to) (v + 1) (set sums to sum)
-    turn-whole = go (joinsIn s places dests (getD sums d emptyTally) v d) refl
+    turn-whole : Directing reserve s places (set dests v to) (v + 1) (set sums to sum)
+    turn-whole = go (joinsIn reserve s places dests (getD sums d emptyTally) v d) refl
       where
-        go : (b : Bool) → joinsIn s places dests (getD sums d emptyTally) v d ≡ b → Directing s places (set dests v to) (v + 1) (set sums to sum)
+        go : (b : Bool) → joinsIn reserve s places dests (getD sums d emptyTally) v d ≡ b → Directing reserve s places (set dests v to) (v + 1) (set sums to sum)
         go true q = goes q
         go false q = stays q
 
 -- the same with the indices as the code has them
-pub directing-turn : (s places dests : List ℕ) (v d to i t : ℕ) (sums : List Tally) → Directing s places dests v sums → clusterCheck s ≡ Whole → v < vmCount s →
-    d ≡ vmOf (roomOf s) v .target → i ≡ d → to ≡ goalOf s places dests (getD sums i emptyTally) v → t ≡ to → t < 256 → (need : Need) (sum : Tally) → NeedOf (roomOf s) v need →
-    sum ≡ record { memory = getD sums t emptyTally .memory + need .memory; cpu = getD sums t emptyTally .cpu + need .cpu } → Directing s places (set dests v to) (v + 1) (set sums t sum)
-directing-turn s places dests v d to i t sums inv w h e x g y small need sum k z =
-    rw y (turn-whole s places dests v d to sums inv w h e (g ∙ ap (λ (j : ℕ). goalOf s places dests (getD sums j emptyTally) v) x) (rw (← y) small) need sum k
+pub directing-turn : (reserve : ℕ) (s places dests : List ℕ) (v d to i t : ℕ) (sums : List Tally) → Directing reserve s places dests v sums → clusterCheck s ≡ Whole → v < vmCount s →
+    d ≡ vmOf (roomOf s) v .target → i ≡ d → to ≡ goalOf reserve s places dests (getD sums i emptyTally) v → t ≡ to → t < 256 → (need : Need) (sum : Tally) → NeedOf (roomOf s) v need →
+    sum ≡ record { memory = getD sums t emptyTally .memory + need .memory; cpu = getD sums t emptyTally .cpu + need .cpu } → Directing reserve s places (set dests v to) (v + 1) (set sums t sum)
+directing-turn reserve s places dests v d to i t sums inv w h e x g y small need sum k z =
+    rw y (turn-whole reserve s places dests v d to sums inv w h e (g ∙ ap (λ (j : ℕ). goalOf reserve s places dests (getD sums j emptyTally) v) x) (rw (← y) small) need sum k
     (z ∙ ap (λ (j : ℕ). plus need (getD sums j emptyTally)) y))
   where
     plus : Need → Tally → Tally
     plus n a = record { memory = a .memory + n .memory; cpu = a .cpu + n .cpu }
 
-pub directing-end : (s places dests : List ℕ) (v n : ℕ) (sums : List Tally) → Directing s places dests v sums → n ≡ vmCount s → n ≤ v →
-    dests ≡ destsFrom (directStep (roomOf s) (held s places))
+pub directing-end : (reserve : ℕ) (s places dests : List ℕ) (v n : ℕ) (sums : List Tally) → Directing reserve s places dests v sums → n ≡ vmCount s → n ≤ v →
+    dests ≡ destsFrom (directStep (roomAt reserve s) (held s places))
 unfolding joinedAll from
-directing-end s places dests v n sums inv q h =
+directing-end reserve s places dests v n sums inv q h =
     let z : vmCount s - v ≡ 0 = omega arith in
     inv .array ∙ ap destsFrom (rw z at (inv .left))

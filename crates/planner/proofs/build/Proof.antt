@@ -12,13 +12,13 @@ answer-to-requires : tie.Need-answer-to-requires
 answer-to-requires c κs = search needs
 
 pack-requires : tie.Need-pack-requires
-pack-requires c κs = answer-packs _ _ _ _ (c .before .before .answer-to .ensures) (λ i. omega (arith, c .before .before .before .before .before .shared-slice-known .given i))
+pack-requires c κs = answer-packs _ _ _ _ _ (c .before .before .answer-to .ensures) (λ i. omega (arith, c .before .before .before .before .before .shared-slice-known .given i))
 
 same-length : tie.Need-same-length
 same-length c = search needs
 
 returns : tie.Need-returns
-returns c = built _ _ _ _ _ (c .before .before .before .answer-to .ensures) (c .pack .ensures) (λ i. omega (arith, c .before .before .before .before .before .before .shared-slice-known .given i))
+returns c = built _ _ _ _ _ _ (c .before .before .before .answer-to .ensures) (c .pack .ensures) (λ i. omega (arith, c .before .before .before .before .before .before .shared-slice-known .given i))
 
 pub build-spec : {M : Type 1} → statement M
 build-spec = tie.close (tie.spec answer-to-requires pack-requires same-length returns)

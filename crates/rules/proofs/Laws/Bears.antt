@@ -46,13 +46,13 @@ module _ (node : Node) (t : Tally) (vm : Vm) where
 
 -- ---- a place
 
--- a test of nodes that goes over to another does so of places
-at-more : (room : Room) (d : ℕ) (s t : Tally) (v w : Vm) → (bears (nodeOf room d) s v ≡ true → bears (nodeOf room d) t w ≡ true) →
-    bearsAt room d s v ≡ true → bearsAt room d t w ≡ true
+-- a test of a node that goes over to another, be it in another room, does so of places
+pub at-more : (room other : Room) (d : ℕ) (s t : Tally) (v w : Vm) → (bears (nodeOf room d) s v ≡ true → bears (nodeOf other d) t w ≡ true) →
+    bearsAt room d s v ≡ true → bearsAt other d t w ≡ true
 unfolding bearsAt
-at-more room d s t v w h e = go (onNode d) e
+at-more room other d s t v w h e = go (onNode d) e
   where
-    go : (b : Bool) → pick b (bears (nodeOf room d) s v) true ≡ true → pick b (bears (nodeOf room d) t w) true ≡ true
+    go : (b : Bool) → pick b (bears (nodeOf room d) s v) true ≡ true → pick b (bears (nodeOf other d) t w) true ≡ true
     go true x = h x
     go false x = refl
 
@@ -67,7 +67,7 @@ at-none room d t vm n = rw n
 -- what bears a tally for a VM bears a smaller one for it
 pub bears-less : (room : Room) (d : ℕ) (s t : Tally) (vm : Vm) → s .memory ≤ t .memory → s .cpu ≤ t .cpu → bearsAt room d t vm ≡ true → bearsAt room d s vm ≡ true
 bears-less room d s t vm m c =
-    at-more room d t s vm vm (λ e.
+    at-more room room d t s vm vm (λ e.
     let x = bears-memory (nodeOf room d) t vm e in
     bears-by (nodeOf room d) s vm (omega arith) (⊎-elim inl (λ y. inr (omega arith)) (bears-cpu (nodeOf room d) t vm e)))
 

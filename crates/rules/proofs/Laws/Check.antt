@@ -10,7 +10,7 @@ use native.Mathlib.Omega.{arith}
 use lib.ListN.{length, getD, drop, drop-of-length-le, List·getD-eq-default}
 use lib.Dec.{ltb, leb, eqb}
 use Rattle.records.specs.Base.{pick, all}
-use Rattle.records.specs.Room.{Room, roomOf, nodeCount, vmCount, clusterCheck}
+use Rattle.records.specs.Room.{Room, roomOf, roomAt, nodeCount, vmCount, clusterCheck}
 use Rattle.records.specs.Plan.{Move, Step, moveOf, moveCount, stepAt, stepEnd}
 use Rattle.records.specs.declared.faults.ClusterCheck.the-variants.{Whole}
 use Rattle.records.proofs.Laws.Cluster.{nodes-most, vms-most}
@@ -24,6 +24,7 @@ use Rattle.rules.specs.declared.faults.StepCheck.{StepCheck}
 use Rattle.rules.specs.declared.faults.StepCheck.the-variants.{Clear, Faulty}
 use Rattle.rules.specs.declared.tally.Tally.{Tally}
 use Rattle.rules.proofs.Laws.Places.{step-cons}
+use Rattle.rules.proofs.Laws.Reserve.{named-same, permitted-same, unmet-same}
 use Rattle.rules.proofs.Laws.Fit.{named-is-aimed, named-ready, fitting-is}
 use Rattle.rules.proofs.Laws.Meet.{unmet-is}
 use Rattle.rules.proofs.Laws.Sources.{sourced-held}
@@ -96,49 +97,57 @@ module _ (s plan places : List ℕ) (at : ℕ) (h : Held s plan at places) where
     pub held-ready : Ready s places dests
     held-ready = rw e (named-ready s places (stepAt plan at) (h .whole) (h .well-named))
 
-    module _ (sums : List Tally) (fits : Bool) (l : Loads s places dests sums) (f : fits ≡ fitsIn (roomOf s) sums (stepAt plan at)) where
-      fits-is : fits ≡ fitting (roomOf s) (held s places) (stepAt plan at)
-      fits-is = fitting-is s places (stepAt plan at) (h .whole) (h .well-named) sums fits f (rw e at l)
+    module _ (reserve : ℕ) (sums : List Tally) (fits : Bool) (l : Loads s places dests sums) (f : fits ≡ fitsIn (roomAt reserve s) sums (stepAt plan at)) where
+      fits-is : fits ≡ fitting (roomAt reserve s) (held s places) (stepAt plan at)
+      fits-is = fitting-is reserve s places (stepAt plan at) (h .whole) (h .well-named) sums fits f (rw e at l)
 
-      pub running-misfit : fits ≡ false → Faulty Misfit ≡ runningCheck (roomOf s) (held s places) (stepAt plan at)
+      pub running-misfit : fits ≡ false → Faulty Misfit ≡ runningCheck (roomAt reserve s) (held s places) (stepAt plan at)
       unfolding runningCheck
       running-misfit o = simp (sym fits-is ∙ o)
 
       module _ (apart : Bool) (g : apart ≡ all (spreadOk places dests) (roomOf s .constraints)) (o : fits ≡ true) where
-        apart-is : apart ≡ unmet (roomOf s) (held s places) (stepAt plan at)
-        apart-is = unmet-is s places (stepAt plan at) (h .whole) (h .well-named) (rw e at held-ready) apart (rw e at g)
+        apart-is : apart ≡ unmet (roomAt reserve s) (held s places) (stepAt plan at)
+        apart-is =
+            unmet-is s places (stepAt plan at) (h .whole) (h .well-named) (rw e at held-ready) apart (rw e at g) ∙
+            sym (unmet-same reserve (roomOf s) (held s places) (stepAt plan at))
 
-        pub running-mate : apart ≡ false → Faulty Mate ≡ runningCheck (roomOf s) (held s places) (stepAt plan at)
+        pub running-mate : apart ≡ false → Faulty Mate ≡ runningCheck (roomAt reserve s) (held s places) (stepAt plan at)
         unfolding runningCheck
         running-mate p = simp (sym fits-is ∙ o, sym apart-is ∙ p)
 
-        pub running-sound : apart ≡ true → Clear ≡ runningCheck (roomOf s) (held s places) (stepAt plan at)
+        pub running-sound : apart ≡ true → Clear ≡ runningCheck (roomAt reserve s) (held s places) (stepAt plan at)
         unfolding runningCheck
         running-sound p = simp (sym fits-is ∙ o, sym apart-is ∙ p)
 
 -- ---- the first fault
 
-module _ (s plan places : List ℕ) (at : ℕ) (name : Bool) (e : name ≡ named (roomOf s) (held s places) 0 (stepAt plan at)) where
-  pub step-misnamed : name ≡ false → Faulty Misnamed ≡ stepCheck (roomOf s) (held s places) (stepAt plan at)
+module _ (reserve : ℕ) (s plan places : List ℕ) (at : ℕ) (name : Bool) (e : name ≡ named (roomOf s) (held s places) 0 (stepAt plan at)) where
+  name-is : named (roomAt reserve s) (held s places) 0 (stepAt plan at) ≡ name
+  name-is = named-same reserve (roomOf s) (held s places) 0 (stepAt plan at) ∙ sym e
+
+  pub step-misnamed : name ≡ false → Faulty Misnamed ≡ stepCheck (roomAt reserve s) (held s places) (stepAt plan at)
   unfolding stepCheck
-  step-misnamed o = simp (sym e ∙ o)
+  step-misnamed o = simp (name-is ∙ o)
 
   module _ (right : Bool) (x : right ≡ sourced places (stepAt plan at)) (w : clusterCheck s ≡ Whole) (o : name ≡ true) where
     right-is : sourced (held s places) (stepAt plan at) ≡ right
     right-is = sourced-held s places (stepAt plan at) (named-is-aimed s places (stepAt plan at) w (sym e ∙ o)) ∙ sym x
 
-    pub step-elsewhere : right ≡ false → Faulty Elsewhere ≡ stepCheck (roomOf s) (held s places) (stepAt plan at)
+    pub step-elsewhere : right ≡ false → Faulty Elsewhere ≡ stepCheck (roomAt reserve s) (held s places) (stepAt plan at)
     unfolding stepCheck
-    step-elsewhere p = simp (sym e ∙ o, right-is ∙ p)
+    step-elsewhere p = simp (name-is ∙ o, right-is ∙ p)
 
     module _ (may : Bool) (f : may ≡ permitted (roomOf s) (stepAt plan at)) (y : right ≡ true) where
-      pub step-forbidden : may ≡ false → Faulty Forbidden ≡ stepCheck (roomOf s) (held s places) (stepAt plan at)
-      unfolding stepCheck
-      step-forbidden p = simp (sym e ∙ o, right-is ∙ y, sym f ∙ p)
+      may-is : permitted (roomAt reserve s) (stepAt plan at) ≡ may
+      may-is = permitted-same reserve (roomOf s) (stepAt plan at) ∙ sym f
 
-      pub step-running : (r : StepCheck) → r ≡ runningCheck (roomOf s) (held s places) (stepAt plan at) → may ≡ true → r ≡ stepCheck (roomOf s) (held s places) (stepAt plan at)
+      pub step-forbidden : may ≡ false → Faulty Forbidden ≡ stepCheck (roomAt reserve s) (held s places) (stepAt plan at)
+      unfolding stepCheck
+      step-forbidden p = simp (name-is ∙ o, right-is ∙ y, may-is ∙ p)
+
+      pub step-running : (r : StepCheck) → r ≡ runningCheck (roomAt reserve s) (held s places) (stepAt plan at) → may ≡ true → r ≡ stepCheck (roomAt reserve s) (held s places) (stepAt plan at)
       unfolding stepCheck runningCheck
-      step-running r g p = simp (sym e ∙ o, right-is ∙ y, sym f ∙ p) g
+      step-running r g p = simp (name-is ∙ o, right-is ∙ y, may-is ∙ p) g
 
 pub named-aims : (s plan places : List ℕ) (at : ℕ) (ok : Bool) → ok ≡ named (roomOf s) (held s places) 0 (stepAt plan at) → clusterCheck s ≡ Whole → ok ≡ true → Aimed s (stepAt plan at)
 named-aims s plan places at ok e w o = named-is-aimed s places (stepAt plan at) w (sym e ∙ o)

@@ -12,7 +12,7 @@ use lib.Seq.{getD-take, getD-set-same, getD-set-other}
 use lib.Dec.{ltb, leb, eqb}
 use borrow.Author.Tests.{ltb-true, eq-eqb, ne-eqb, eqb-false, not-true}
 use Rattle.records.specs.Base.{all}
-use Rattle.records.specs.Room.{Room, Node, Vm, nodeOf, vmOf, nowhere, roomOf, nodeCount, vmCount, placeOk, clusterCheck}
+use Rattle.records.specs.Room.{Room, Node, Vm, nodeOf, vmOf, nowhere, roomOf, roomAt, nodeCount, vmCount, placeOk, clusterCheck}
 use Rattle.records.specs.Plan.{Move, Step, moveOf, moveCount, stepAt}
 use Rattle.records.specs.declared.faults.ClusterCheck.the-variants.{Whole}
 use Rattle.records.proofs.Laws.Bools.{and-left, and-right, and-both}
@@ -23,6 +23,7 @@ use Rattle.rules.specs.Moments.{Placement, placeOf, targetOf, waiting, e
 use Rattle.rules.specs.Rules.{aims, named, fitting}
 use Rattle.rules.specs.Inner.{held, destsFrom, goalIn, busyFrom, Ready, Loads, Aimed, borneIn, fitsIn}
 use Rattle.rules.specs.declared.tally.Tally.{Tally}
+use Rattle.rules.proofs.Laws.Reserve.{moment-same, tally-same, named-same}
 use Rattle.rules.proofs.Laws.Places.{step-cons}
 
 -- ---- the sums of a node
@@ -67,34 +68,34 @@ module _ (s plan : List ℕ) (at i d : ℕ) (e : d ≡ moveOf (stepAt plan at) i
   aimed-below k = near-node (nodeCount s) d (nodes-most s w) aimed-place k
 
   -- to no node: it always fits
-  pub borne-off : (here : Tally) → 64 ≤ d → true ≡ borneIn (roomOf s) here (moveOf (stepAt plan at) i)
+  pub borne-off : (room : Room) (here : Tally) → 64 ≤ d → true ≡ borneIn room here (moveOf (stepAt plan at) i)
   unfolding bearsAt
-  borne-off here k = rw (← e, far-off (nodeCount s) d (nodes-most s w) aimed-place k)
+  borne-off room here k = rw (← e, far-off (nodeCount s) d (nodes-most s w) aimed-place k)
 
   module _ (v : ℕ) (g : v ≡ moveOf (stepAt plan at) i .vm) where
     pub aimed-vm : v < vmCount s
     aimed-vm = rw g (a .vms i inside)
 
-    pub borne-node : (here : Tally) (ok : Bool) → ok ≡ bears (nodeOf (roomOf s) d) here (vmOf (roomOf s) v) → d < 64 → ok ≡ borneIn (roomOf s) here (moveOf (stepAt plan at) i)
+    pub borne-node : (room : Room) (here : Tally) (ok : Bool) → ok ≡ bears (nodeOf room d) here (vmOf room v) → d < 64 → ok ≡ borneIn room here (moveOf (stepAt plan at) i)
     unfolding bearsAt
-    borne-node here ok f k = rw (← e, ← g, near-on (nodeCount s) d (nodes-most s w) aimed-place k) f
+    borne-node room here ok f k = rw (← e, ← g, near-on (nodeCount s) d (nodes-most s w) aimed-place k) f
 
-module _ (s plan : List ℕ) (at i n to d : ℕ) (h : i < n) (q : n ≡ moveCount plan at) (e : to ≡ moveOf (stepAt plan at) i .to) (c : d ≡ to) (sums : List Tally) (result ok : Bool)
-    (inv : fitsIn (roomOf s) sums (drop i (stepAt plan at)) ≡ result) (f : ok ≡ borneIn (roomOf s) (getD sums d emptyTally) (moveOf (stepAt plan at) i)) where
-  opened : (ok && fitsIn (roomOf s) sums (drop (suc i) (stepAt plan at))) ≡ result
+module _ (room : Room) (plan : List ℕ) (at i n to d : ℕ) (h : i < n) (q : n ≡ moveCount plan at) (e : to ≡ moveOf (stepAt plan at) i .to) (c : d ≡ to) (sums : List Tally) (result ok : Bool)
+    (inv : fitsIn room sums (drop i (stepAt plan at)) ≡ result) (f : ok ≡ borneIn room (getD sums d emptyTally) (moveOf (stepAt plan at) i)) where
+  opened : (ok && fitsIn room sums (drop (suc i) (stepAt plan at))) ≡ result
   unfolding fitsIn all
   opened = let k : i < moveCount plan at = omega arith in rw (f, c, e) (simp (step-cons plan at i k) at inv)
 
   pub fits-not : ok ≡ false → false ≡ result
   fits-not o = simp o at opened
 
-  pub fits-more : ok ≡ true → fitsIn (roomOf s) sums (drop (i + 1) (stepAt plan at)) ≡ result
+  pub fits-more : ok ≡ true → fitsIn room sums (drop (i + 1) (stepAt plan at)) ≡ result
   fits-more o = rw add-one (simp o at opened)
 
-pub fits-end : (s plan : List ℕ) (at i n : ℕ) (sums : List Tally) (result : Bool) → n ≡ moveCount plan at → fitsIn (roomOf s) sums (drop i (stepAt plan at)) ≡ result →
+pub fits-end : (room : Room) (plan : List ℕ) (at i n : ℕ) (sums : List Tally) (result : Bool) → n ≡ moveCount plan at → fitsIn room sums (drop i (stepAt plan at)) ≡ result →
     n ≤ i → true ≡ result
 unfolding fitsIn all
-fits-end s plan at i n sums result q inv h =
+fits-end room plan at i n sums result q inv h =
     let k : length (stepAt plan at) ≤ i = rw (step-length plan at) (omega arith) in
     rw (drop-of-length-le (stepAt plan at) k) at inv
 
@@ -274,6 +275,16 @@ module _ (s places : List ℕ) (step : Step) (w : clusterCheck s ≡ Whole) (n :
   pub phase-dest : (v d : ℕ) → v < 256 → phaseOf step v ≡ waiting d → getD (destsFrom step) v 0 ≡ d
   phase-dest v d h e = waits-dest step v d h e
 
-  pub fitting-is : (sums : List Tally) (r : Bool) → r ≡ fitsIn (roomOf s) sums step → Loads s places (destsFrom step) sums → r ≡ fitting (roomOf s) (held s places) step
+-- what counts does not depend on the reserve; what a node has does
+module _ (reserve : ℕ) (s places : List ℕ) (step : Step) (w : clusterCheck s ≡ Whole) (n : named (roomOf s) (held s places) 0 step ≡ true) where
+  pub fitting-is : (sums : List Tally) (r : Bool) → r ≡ fitsIn (roomAt reserve s) sums step → Loads s places (destsFrom step) sums → r ≡ fitting (roomAt reserve s) (held s places) step
   unfolding fitsIn fitting
-  fitting-is sums r e l = e ∙ each-same sums (λ d. tallyAt (roomOf s) d (allRunning (firstMoment (roomOf s) (held s places) step))) (roomOf s) step far-step (λ d h. l .each d h ∙ ap (tallyAt (roomOf s) d) running-is)
+  fitting-is sums r e l =
+      e ∙
+      each-same sums (λ d. tallyAt (roomAt reserve s) d (allRunning (firstMoment (roomAt reserve s) (held s places) step))) (roomAt reserve s) step (far-step s places step w n)
+      (λ d h. rw (tally-same reserve (roomOf s), moment-same reserve (roomOf s) (held s places) step) (l .each d h ∙ ap (tallyAt (roomOf s) d) (running-is s places step w n)))
+
+pub running-at : (reserve : ℕ) (s places : List ℕ) (step : Step) → clusterCheck s ≡ Whole → named (roomAt reserve s) (held s places) 0 step ≡ true →
+    busyFrom places (destsFrom step) 0 (vmCount s) ≡ allRunning (firstMoment (roomAt reserve s) (held s places) step)
+running-at reserve s places step w n =
+    rw (moment-same reserve (roomOf s) (held s places) step) (running-is s places step w (sym (named-same reserve (roomOf s) (held s places) 0 step) ∙ n))

@@ -8,7 +8,7 @@ use lib.ListN.{length, getD, replicate, length-replicate, getD-replicate}
 use lib.Dec.{ltb, eqb}
 use borrow.Author.Tests.{lt-ltb, eq-eqb, ne-eqb, eqb-true, ltb-true}
 use Rattle.records.specs.Base.{pick, all}
-use Rattle.records.specs.Room.{Constraint, ban, fence, spread, latency, groupsOf, onNode, has, rises, listOk, roomOf, nodeCount, vmCount, partAt, partsFrom, constraintsStart, constraintCount, constraintOf, constraintOk, clusterCheck}
+use Rattle.records.specs.Room.{Constraint, ban, fence, spread, latency, groupsOf, onNode, has, rises, listOk, atReserve, roomOf, roomAt, nodeCount, vmCount, partAt, partsFrom, constraintsStart, constraintCount, constraintOf, constraintOk, clusterCheck}
 use Rattle.records.specs.Inner.{Parts}
 use Rattle.records.specs.declared.faults.ClusterCheck.the-variants.{Whole}
 use Rattle.records.proofs.Laws.Bools.{and-left, and-right, and-both, all-same, all-and, all-true}
@@ -21,6 +21,7 @@ use Rattle.rules.specs.Rules.{fitsAll, spreadOut, onNodes, keeps, target
 use Rattle.rules.specs.Inner.{held, Placed, arrayOf, Formed, stopped, goUnmet, clearOf, allDown, groupHolds, keepsIn}
 use Rattle.rules.specs.declared.faults.TargetFault.the-variants.{Overfull, Broken}
 use Rattle.rules.specs.declared.faults.TargetCheck.the-variants.{Good, Bad}
+use Rattle.rules.proofs.Laws.Reserve.{target-same}
 use Rattle.rules.proofs.Laws.Allow.{walk-below, stopped-at}
 use Rattle.rules.proofs.Laws.Places.{target-holds, target-placed}
 use Rattle.rules.proofs.Laws.Fit.{held-at}
@@ -250,22 +251,23 @@ module _ (s places : List ℕ) (w : clusterCheck s ≡ Whole) (p : Placed s plac
 
 -- ---- the target
 
-module _ (s places : List ℕ) (q : places ≡ arrayOf (targetOf (roomOf s))) (w : clusterCheck s ≡ Whole) (fit : Bool) (e : fit ≡ fitsAll (roomOf s) (held s places)) where
-  fit-is : fit ≡ fitsAll (roomOf s) (targetOf (roomOf s))
-  fit-is = e ∙ ap (fitsAll (roomOf s)) (target-holds s places q w .is)
+module _ (reserve : ℕ) (s places : List ℕ) (q : places ≡ arrayOf (targetOf (roomOf s))) (w : clusterCheck s ≡ Whole) (fit : Bool) (e : fit ≡ fitsAll (roomAt reserve s) (held s places)) where
+  fit-is : fit ≡ fitsAll (roomAt reserve s) (targetOf (roomAt reserve s))
+  fit-is = e ∙ ap (fitsAll (roomAt reserve s)) (target-holds s places q w .is ∙ sym (target-same reserve (roomOf s)))
 
-  pub target-overfull : fit ≡ false → Bad Overfull ≡ targetCheck (roomOf s)
+  pub target-overfull : fit ≡ false → Bad Overfull ≡ targetCheck (roomAt reserve s)
   unfolding targetCheck
   target-overfull o = simp (sym fit-is ∙ o)
 
   module _ (kept : Bool) (f : kept ≡ all (keepsIn places) (roomOf s .constraints)) (o : fit ≡ true) where
-    kept-target : kept ≡ all (keeps (targetOf (roomOf s))) (roomOf s .constraints)
-    kept-target = f ∙ all-kept-is s places w (target-placed s places q w) (roomOf s .constraints) (constraints-ok s w) ∙ ap (λ (x : Placement). all (keeps x) (roomOf s .constraints)) (target-holds s places q w .is)
+    kept-target : kept ≡ all (keeps (targetOf (roomAt reserve s))) (roomAt reserve s .constraints)
+    unfolding atReserve
+    kept-target = f ∙ all-kept-is s places w (target-placed s places q w) (roomOf s .constraints) (constraints-ok s w) ∙ ap (λ (x : Placement). all (keeps x) (roomOf s .constraints)) (target-holds s places q w .is ∙ sym (target-same reserve (roomOf s)))
 
-    pub target-broken : kept ≡ false → Bad Broken ≡ targetCheck (roomOf s)
+    pub target-broken : kept ≡ false → Bad Broken ≡ targetCheck (roomAt reserve s)
     unfolding targetCheck
     target-broken p = simp (sym fit-is ∙ o, sym kept-target ∙ p)
 
-    pub target-good : kept ≡ true → Good ≡ targetCheck (roomOf s)
+    pub target-good : kept ≡ true → Good ≡ targetCheck (roomAt reserve s)
     unfolding targetCheck
     target-good p = simp (sym fit-is ∙ o, sym kept-target ∙ p)

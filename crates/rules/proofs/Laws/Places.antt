@@ -9,7 +9,7 @@ use native.Mathlib.Numerals.{add-one}
 use native.Mathlib.Omega.{arith}
 use lib.ListN.{length, getD, set, take, drop, replicate, length-set, length-map, length-replicate, getD-replicate, drop-of-length-le, List·getD-map, List·getD-append, List·getD-eq-default, take-append-drop}
 use lib.Seq.{take-suc, take-suc-set, drop-cons, drop-drop, drop-set-lt, take-all, take-at, getD-append-add}
-use Rattle.records.specs.Room.{Room, noVm, vmOf, roomOf, nodeCount, vmCount, placeOk, clusterCheck}
+use Rattle.records.specs.Room.{Room, noVm, vmOf, roomOf, roomAt, nodeCount, vmCount, placeOk, clusterCheck}
 use Rattle.records.specs.Plan.{noMove, moveOf, moveCount, stepAt}
 use Rattle.records.specs.declared.faults.ClusterCheck.the-variants.{Whole}
 use Rattle.records.proofs.Laws.Cluster.{vms-count, nodes-least, vm-current-place, vm-target-place}
@@ -17,6 +17,7 @@ use Rattle.records.proofs.Laws.Rows.{place-node}
 use Rattle.records.proofs.Laws.Steps.{step-length}
 use Rattle.rules.specs.Moments.{Placement, currentOf, targetOf, after}
 use Rattle.rules.specs.Inner.{held, Placed, Holds, arrayOf, Filling, destsFrom}
+use Rattle.rules.proofs.Laws.Reserve.{target-same}
 
 -- ---- filling an array from the VM rows
 
@@ -86,6 +87,10 @@ current-at room v = List·getD-map (λ vm. vm .current) (room .vms) v noVm
 pub target-at : (room : Room) (v : ℕ) → getD (targetOf room) v 0 ≡ vmOf room v .target
 unfolding targetOf vmOf
 target-at room v = List·getD-map (λ vm. vm .target) (room .vms) v noVm
+
+-- at any reserve
+pub target-there : (reserve : ℕ) (s : List ℕ) (v : ℕ) → getD (targetOf (roomAt reserve s)) v 0 ≡ vmOf (roomOf s) v .target
+target-there reserve s v = rw (target-same reserve (roomOf s)) (target-at (roomOf s) v)
 
 module _ (s places : List ℕ) (v x n : ℕ) where
   pub current-more : x ≡ vmOf (roomOf s) v .current → n ≡ vmCount s → Filling places (currentOf (roomOf s)) v → v < n → n ≤ 256 →

@@ -1,20 +1,20 @@
 -- Wrong readings of the rules, each written beside the right one, and a small case that tells the two apart.
-use Prim.Native.Nat.{ℕ}
+use Prim.Native.Nat.{ℕ, _+_, _-_, _*_, _/_}
 use mathlib.Core.Bool.{Bool, true, false, not, _&&_, _||_}
-use mathlib.Core.List.{[], _∷_}
+use mathlib.Core.List.{[], _∷_, map}
 use mathlib.Core.Path.{_≡_, refl}
 use lib.ListN.{length}
 use lib.Dec.{eqb}
 use Rattle.records.specs.Base.{pick, all, sumOf}
-use Rattle.records.specs.Room.{Room, Vm, Node, fence, spread, has, vmsOf, nodeOf, vmOf, nowhere, onNode}
+use Rattle.records.specs.Room.{Room, Vm, Node, fence, spread, has, vmsOf, nodeOf, vmOf, usable, usableNode, atReserve, nowhere, onNode}
 use Rattle.records.specs.Plan.{Step}
 use Rattle.records.specs.declared.plan.Source.the-variants.{Unnamed}
 use Rattle.rules.specs.Moments.{Placement, currentOf, targetOf, after, withinMemory, withinCpu, within, isIdle, bears, bearsAt, withVm, emptyTally, staying, waiting, running, ended, Cell, cell, Moment, numberOf, countsOn, tallyAt, phaseOf, cellsFrom, firstMoment, begun, allRunning}
 use Rattle.rules.specs.Orders.{fits, spreads, some, mates, meetsMate}
-use Rattle.rules.specs.Rules.{from, keepsFrom, allowed, aims, named, isPlace, sourced, permitted, fitting, unmet, stepCheck, soundStep, fitsAll, targetCheck}
+use Rattle.rules.specs.Rules.{from, spreadOut, onNodes, keeps, keepsFrom, allowed, aims, named, isPlace, sourced, permitted, fitting, unmet, stepCheck, soundStep, fitsAll, targetCheck}
 use Rattle.rules.specs.Cost.{memoryOf, stepCost, costFrom, costOf}
 use Rattle.rules.specs.declared.faults.TargetFault.the-variants.{Overfull}
-use Rattle.rules.specs.declared.faults.TargetCheck.the-variants.{Bad}
+use Rattle.rules.specs.declared.faults.TargetCheck.the-variants.{Good, Bad}
 use Rattle.rules.specs.declared.faults.StepFault.the-variants.{Misnamed, Misfit}
 use Rattle.rules.specs.declared.faults.StepCheck.the-variants.{Clear, Faulty}
 use Rattle.rules.specs.declared.tally.Tally.{Tally}
@@ -88,6 +88,21 @@ bothCome = record { vm = 0; source = Unnamed; to = 1 } ∷ record { vm = 1; sour
 unfoldable pub leaves : Step
 leaves = record { vm = 2; source = Unnamed; to = 2 } ∷ []
 
+-- VM 0, of memory 19, is to leave node 0, which has 20, and VM 1, of memory 1, is to come there
+unfoldable pub lean : Room
+lean = record {
+  nodes = node 20 ∷ node 40 ∷ [];
+  vms = vm 19 0 1 ∷ record { memory = 1; cpu = 40; current = 1; target = 0 } ∷ [];
+  constraints = [];
+}
+
+unfoldable pub comes : Step
+comes = record { vm = 1; source = Unnamed; to = 0 } ∷ []
+
+-- VM 0, of CPU 91, is to go from node 0 to node 1, of CPU 100
+unfoldable pub hot : Room
+hot = record { nodes = node 9 ∷ node 9 ∷ []; vms = record { memory = 1; cpu = 91; current = 0; target = 1 } ∷ []; constraints = [] }
+
 -- ---- the wrong readings
 
 -- the source is freed when a move begins
@@ -130,6 +145,18 @@ fittingBeside room places step =
     let tally : ℕ → Tally = λ d. tallyAt room d (allRunning (firstMoment room places step)) in
     all (λ move. withinMemory (nodeOf room (move .to)) (tally (move .to)) &&
     (some (λ other. eqb (other .to) (move .to) && isIdle (vmOf room (other .vm))) step || withinCpu (nodeOf room (move .to)) (tally (move .to)))) step
+
+-- what is usable is rounded up
+unfoldable pub usableUp : ℕ → ℕ → ℕ
+usableUp reserve amount = (amount * (100 - reserve) + 99) / 100
+
+-- a reserve is kept of the memory alone
+unfoldable pub atMemory : ℕ → Room → Room
+atMemory reserve room = record {
+  nodes = map (λ n. record { memory = usable reserve (n .memory); cpu = n .cpu }) (room .nodes);
+  vms = room .vms;
+  constraints = room .constraints;
+}
 
 -- ---- what tells them apart
 
@@ -174,9 +201,26 @@ pub record ToldApart : Type 0 where
   pub side-by-side : stepCheck (busy 4 2) (after (currentOf (busy 4 2)) leaves) bothCome ≡ Clear
   -- the target fits both sums: with VM 2 to stay, node 1 is over its CPU
   pub target : targetCheck (busy 9 1) ≡ Bad Overfull
+  -- usable amounts are rounded down, memory and CPU each by itself
+  pub usable-wrong : usableUp 10 4 ≡ 4
+  pub usable-right : usableNode 10 (record { memory = 4; cpu = 101 }) ≡ record { memory = 3; cpu = 90 }
+  pub usable-all : usableNode 0 (record { memory = 4; cpu = 101 }) ≡ record { memory = 4; cpu = 101 }
+  pub usable-least : usableNode 90 (record { memory = 9; cpu = 10 }) ≡ record { memory = 0; cpu = 1 }
+  -- a reserve is kept of the CPU too
+  pub kept-wrong : stepCheck (atMemory 10 hot) (currentOf hot) oneMove ≡ Clear
+  pub kept-right : stepCheck (atReserve 10 hot) (currentOf hot) oneMove ≡ Faulty Misfit
+  pub kept-less : stepCheck (atReserve 9 hot) (currentOf hot) oneMove ≡ Clear
+  -- node 0 is within its capacity, and at reserve 10 over what is usable of it: it takes nobody, may be left, and then takes VM 1
+  pub lean-none : stepCheck (atReserve 0 lean) (currentOf lean) comes ≡ Clear
+  pub lean-enters : stepCheck (atReserve 10 lean) (currentOf lean) comes ≡ Faulty Misfit
+  pub lean-leaves : stepCheck (atReserve 10 lean) (currentOf lean) oneMove ≡ Clear
+  pub lean-later : stepCheck (atReserve 10 lean) (after (currentOf lean) oneMove) comes ≡ Clear
+  -- a target that fits at one reserve need not at a larger one
+  pub target-fits : targetCheck (atReserve 25 (swap 4)) ≡ Good
+  pub target-over : targetCheck (atReserve 26 (swap 4)) ≡ Bad Overfull
 
 pub told-apart : ToldApart
-unfolding all has vmsOf nodeOf vmOf onNode currentOf targetOf within bears countsOn tallyAt phaseOf cellsFrom firstMoment begun allRunning fits spreads some mates meetsMate from keepsFrom allowed aims named permitted fitting unmet soundStep stepCheck after isPlace sourced memoryOf stepCost costFrom costOf sumOf overAt allOver swap bothMoves oneRuns overfull oneMove turnover bothAtOnce shutdown launch killed fenced countsFreed tallyFreed fitsFreed fittingEnded unmetEnded fitsEverywhere bearsAt fitsAll targetCheck busy idleComes activeComes bothCome leaves fitsBoth fitsMemory fittingBeside
+unfolding all has vmsOf nodeOf vmOf onNode currentOf targetOf within bears countsOn tallyAt phaseOf cellsFrom firstMoment begun allRunning fits spreads some mates meetsMate from keepsFrom allowed aims named permitted fitting unmet soundStep stepCheck after isPlace sourced memoryOf stepCost costFrom costOf sumOf overAt allOver swap bothMoves oneRuns overfull oneMove turnover bothAtOnce shutdown launch killed fenced countsFreed tallyFreed fitsFreed fittingEnded unmetEnded fitsEverywhere bearsAt fitsAll targetCheck busy idleComes activeComes bothCome leaves fitsBoth fitsMemory fittingBeside usable usableNode atReserve lean comes hot usableUp atMemory spreadOut onNodes keeps
 told-apart = record {
   source-wrong = refl;
   source-right = refl;
@@ -207,4 +251,17 @@ told-apart = record {
   full-alone = refl;
   side-by-side = refl;
   target = refl;
+  usable-wrong = refl;
+  usable-right = refl;
+  usable-all = refl;
+  usable-least = refl;
+  kept-wrong = refl;
+  kept-right = refl;
+  kept-less = refl;
+  lean-none = refl;
+  lean-enters = refl;
+  lean-leaves = refl;
+  lean-later = refl;
+  target-fits = refl;
+  target-over = refl;
 }

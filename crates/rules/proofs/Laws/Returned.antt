@@ -79,6 +79,7 @@ module _ (r b steps moves cost : ℕ) (e : r ≡ b * 2 ^ 62 + (steps * 2 ^ 53 + 
 
 -- a number is below 256
 pub number-most : (f : Fault) → faultNumber f < 256
+number-most Fault.Reserve = omega arith
 number-most (Fault.Cluster ClusterFault.TooShort) = omega arith
 number-most (Fault.Cluster ClusterFault.Version) = omega arith
 number-most (Fault.Cluster ClusterFault.Length) = omega arith
@@ -138,11 +139,13 @@ faultFrom n s =
     (pick (eqb n 16) (Fault.Step StepFault.Forbidden s)
     (pick (eqb n 17) (Fault.Step StepFault.Misfit s)
     (pick (eqb n 18) (Fault.Step StepFault.Mate s)
+    (pick (eqb n 23) Fault.Reserve
     (pick (eqb n 27) (Fault.Step StepFault.Elsewhere s)
-    Fault.OffTarget)))))))))))))))))
+    Fault.OffTarget))))))))))))))))))
 
 fault-from : (f : Fault) → faultFrom (faultNumber f) (faultStep f) ≡ f
 unfolding faultFrom
+fault-from Fault.Reserve = refl
 fault-from (Fault.Cluster ClusterFault.TooShort) = refl
 fault-from (Fault.Cluster ClusterFault.Version) = refl
 fault-from (Fault.Cluster ClusterFault.Length) = refl

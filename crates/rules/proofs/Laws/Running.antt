@@ -12,7 +12,7 @@ use lib.Dec.{ltb, eqb}
 use borrow.Author.Tests.{ltb-true, eqb-true, eq-eqb}
 use Rattle.records.specs.Base.{pick}
 use Rattle.records.specs.Bytes.{versionOf}
-use Rattle.records.specs.Room.{Room, nowhere, onNode, roomOf, clusterCheck}
+use Rattle.records.specs.Room.{Room, nowhere, onNode, atReserve, roomOf, roomAt, clusterCheck}
 use Rattle.records.specs.Plan.{Step, moveOf}
 use Rattle.records.specs.declared.faults.ClusterCheck.the-variants.{Whole}
 use Rattle.records.proofs.Laws.Bools.{and-left, and-right}
@@ -21,6 +21,8 @@ use Rattle.rules.specs.Moments.{Placement, placeOf, currentOf, targetOf,
 use Rattle.rules.specs.Orders.{Act, Event, begins, ends, later, Order, done, next, Run, stop, step, fits, meetsMate, some, standsOn, EachChange, EachChangeOfRun}
 use Rattle.rules.specs.Rules.{aims, allowed, named}
 use Rattle.rules.specs.Promises.{namedAll, Obeys, KeepsRunning, NothingDown}
+use Rattle.records.proofs.Laws.Reserve.{nodes-kept}
+use Rattle.rules.proofs.Laws.Reserve.{current-same, target-same, named-same}
 use Rattle.rules.proofs.Laws.Meet.{is-false}
 use Rattle.rules.proofs.Laws.Orders.{named-vm, named-sends, named-rest, after-length, order-leaves}
 use Rattle.rules.proofs.Laws.Places.{current-at, target-at}
@@ -181,9 +183,12 @@ module _ (s : List ℕ) (w : clusterCheck s ≡ Whole) (one : versionOf s ≡ 1)
   no-shutdown places least (move ∷ moves) (suc i) n h e =
       no-shutdown places (suc (move .vm)) moves i (named-rest (roomOf s) places least move moves n) (omega arith) e
 
-  pub nothing-down : NothingDown (roomOf s)
-  nothing-down = record {
-    currents = current-node;
-    targets = target-node;
-    no-shutdown = λ places moves i h e. is-false (named (roomOf s) places 0 moves) (λ n. no-shutdown places 0 moves i n h e);
-  }
+-- at any reserve
+pub nothing-down : (reserve : ℕ) (s : List ℕ) → clusterCheck s ≡ Whole → versionOf s ≡ 1 → NothingDown (roomAt reserve s)
+unfolding atReserve
+nothing-down reserve s w one = record {
+  currents = λ v h. rw (current-same reserve (roomOf s), nodes-kept reserve (roomOf s)) (current-node s w one v h);
+  targets = λ v h. rw (target-same reserve (roomOf s), nodes-kept reserve (roomOf s)) (target-node s w one v h);
+  no-shutdown = λ places moves i h e.
+      named-same reserve (roomOf s) places 0 moves ∙ is-false (named (roomOf s) places 0 moves) (λ n. no-shutdown s w one places 0 moves i n h e);
+}

@@ -14,7 +14,7 @@ use mir.Val.{Fits}
 use borrow.Author.Tests.{lt-ltb, le-ltb, eq-eqb, ne-eqb}
 use Rattle.records.specs.Base.{pick, all}
 use Rattle.records.specs.Bytes.{byteAt}
-use Rattle.records.specs.Room.{Constraint, ban, fence, spread, latency, kindOf, vmsOf, nodesOf, groupsOf, listOk, nodeOf, vmOf, roomOf, nodeCount, vmCount, nodesAt, nodesEnd, groupsFrom, othersAt, constraintOf, clusterCheck}
+use Rattle.records.specs.Room.{Constraint, ban, fence, spread, latency, kindOf, vmsOf, nodesOf, groupsOf, listOk, nodeOf, vmOf, Room, roomOf, roomAt, nodeCount, vmCount, nodesAt, nodesEnd, groupsFrom, othersAt, constraintOf, clusterCheck}
 use Rattle.records.specs.Inner.{Below}
 use Rattle.records.specs.declared.constraints.Kind.{Kind}
 use Rattle.records.specs.declared.constraints.Kind.the-variants.{Ban, Fence, Spread, Latency}
@@ -29,6 +29,8 @@ use Rattle.rules.specs.Rules.{from, fitsAll, named}
 use Rattle.rules.specs.Verdict.{home}
 use Rattle.rules.specs.Inner.{held, destsFrom, busyFrom, Ready, Loads, Formed, Grouping, stopped, goUnmet, fitsUpTo, homeFrom, clearOf, allDown, groupHolds, keepsIn}
 use Rattle.rules.specs.declared.tally.Tally.{Tally}
+use Rattle.records.proofs.Laws.Reserve.{room-nodes}
+use Rattle.rules.proofs.Laws.Reserve.{moment-same, tally-same}
 use Rattle.rules.proofs.Laws.Places.{target-at}
 use Rattle.rules.proofs.Laws.Fit.{named-ready, running-is, held-at}
 use Rattle.rules.proofs.Laws.Adding.{empty-running}
@@ -50,24 +52,24 @@ from-none test d n h = let e : n - d ≡ 0 = omega arith in rw e
 
 -- ---- 8: the pass over the nodes
 
-module _ (s : List ℕ) (sums : List Tally) (d n : ℕ) (ok result : Bool) (e : ok ≡ within (nodeOf (roomOf s) d) (getD sums d emptyTally))
-    (inv : fitsUpTo (roomOf s) sums d (n - d) ≡ result) (h : d < n) where
-  opened : (ok && fitsUpTo (roomOf s) sums (d + 1) (n - (d + 1))) ≡ result
+module _ (room : Room) (sums : List Tally) (d n : ℕ) (ok result : Bool) (e : ok ≡ within (nodeOf room d) (getD sums d emptyTally))
+    (inv : fitsUpTo room sums d (n - d) ≡ result) (h : d < n) where
+  opened : (ok && fitsUpTo room sums (d + 1) (n - (d + 1))) ≡ result
   unfolding fitsUpTo
-  opened = rw e (sym (from-more (λ k. within (nodeOf (roomOf s) k) (getD sums k emptyTally)) d n h) ∙ inv)
+  opened = rw e (sym (from-more (λ k. within (nodeOf room k) (getD sums k emptyTally)) d n h) ∙ inv)
 
   pub fit-not : ok ≡ false → false ≡ result
   fit-not o = simp o at opened
 
-  pub fit-more : ok ≡ true → fitsUpTo (roomOf s) sums (d + 1) (n - (d + 1)) ≡ result
+  pub fit-more : ok ≡ true → fitsUpTo room sums (d + 1) (n - (d + 1)) ≡ result
   fit-more o = simp o at opened
 
-pub fit-end : (s : List ℕ) (sums : List Tally) (d n : ℕ) (result : Bool) → fitsUpTo (roomOf s) sums d (n - d) ≡ result → n ≤ d → true ≡ result
+pub fit-end : (room : Room) (sums : List Tally) (d n : ℕ) (result : Bool) → fitsUpTo room sums d (n - d) ≡ result → n ≤ d → true ≡ result
 unfolding fitsUpTo
-fit-end s sums d n result inv h = sym (from-none (λ k. within (nodeOf (roomOf s) k) (getD sums k emptyTally)) d n h) ∙ inv
+fit-end room sums d n result inv h = sym (from-none (λ k. within (nodeOf room k) (getD sums k emptyTally)) d n h) ∙ inv
 
-pub fit-start : (s : List ℕ) (sums : List Tally) (n : ℕ) → n ≡ nodeCount s → fitsUpTo (roomOf s) sums 0 (n - 0) ≡ fitsUpTo (roomOf s) sums 0 (nodeCount s)
-fit-start s sums n q = rw (sub-zero n, q)
+pub fit-start : (room : Room) (s : List ℕ) (sums : List Tally) (n : ℕ) → n ≡ nodeCount s → fitsUpTo room sums 0 (n - 0) ≡ fitsUpTo room sums 0 (nodeCount s)
+fit-start room s sums n q = rw (sub-zero n, q)
 
 pub no-moves : (s places : List ℕ) → named (roomOf s) (held s places) 0 [] ≡ true
 unfolding named
@@ -85,13 +87,13 @@ unfolding all from
 all-from-same p q d zero most e h = refl
 all-from-same p q d (suc n) most e h = rw (e d (omega arith), all-from-same p q (suc d) n most e (omega arith))
 
-pub rest-fits : (s places dests : List ℕ) (sums : List Tally) (r : Bool) → dests ≡ replicate 256 64 → Loads s places dests sums → r ≡ fitsUpTo (roomOf s) sums 0 (nodeCount s) →
-    clusterCheck s ≡ Whole → r ≡ fitsAll (roomOf s) (held s places)
+pub rest-fits : (reserve : ℕ) (s places dests : List ℕ) (sums : List Tally) (r : Bool) → dests ≡ replicate 256 64 → Loads s places dests sums → r ≡ fitsUpTo (roomAt reserve s) sums 0 (nodeCount s) →
+    clusterCheck s ≡ Whole → r ≡ fitsAll (roomAt reserve s) (held s places)
 unfolding fitsUpTo fitsAll
-rest-fits s places dests sums r e l f w =
-    f ∙ ap (λ (n : ℕ). all (λ k. within (nodeOf (roomOf s) k) (getD sums k emptyTally)) (from 0 n)) (sym (nodes-count s)) ∙
-    all-from-same (λ k. within (nodeOf (roomOf s) k) (getD sums k emptyTally)) (λ d. within (nodeOf (roomOf s) d) (tallyAt (roomOf s) d (firstMoment (roomOf s) (held s places) [])))
-    0 (length (roomOf s .nodes)) 64 (λ k h. ap (within (nodeOf (roomOf s) k)) (l .each k (omega arith) ∙ ap (tallyAt (roomOf s) k) moment)) (rw (nodes-count s) (let m = nodes-most s w in omega arith))
+rest-fits reserve s places dests sums r e l f w =
+    f ∙ ap (λ (n : ℕ). all (λ k. within (nodeOf (roomAt reserve s) k) (getD sums k emptyTally)) (from 0 n)) (sym (room-nodes reserve s)) ∙
+    all-from-same (λ k. within (nodeOf (roomAt reserve s) k) (getD sums k emptyTally)) (λ d. within (nodeOf (roomAt reserve s) d) (tallyAt (roomAt reserve s) d (firstMoment (roomAt reserve s) (held s places) [])))
+    0 (length (roomAt reserve s .nodes)) 64 (λ k h. ap (within (nodeOf (roomAt reserve s) k)) (rw (tally-same reserve (roomOf s), moment-same reserve (roomOf s) (held s places) []) (l .each k (omega arith) ∙ ap (tallyAt (roomOf s) k) moment))) (rw (room-nodes reserve s) (let m = nodes-most s w in omega arith))
   where
     moment : busyFrom places dests 0 (vmCount s) ≡ firstMoment (roomOf s) (held s places) []
     moment =

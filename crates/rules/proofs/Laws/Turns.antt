@@ -9,11 +9,12 @@ use native.Mathlib.Numerals.{add-one}
 use native.Mathlib.Omega.{arith}
 use lib.ListN.{length, getD, set}
 use lib.Seq.{take-set-lt, getD-set-same, getD-set-other, set-out}
+use borrow.Author.Tests.{lt-ltb, le-ltb}
 use mir.Syntax.{w64}
 use mir.Val.{Fits}
 use Rattle.records.specs.Base.{pick}
 use Rattle.records.specs.Bytes.{AreBytes}
-use Rattle.records.specs.Room.{Room, roomOf, nodeCount, vmCount, placeOk, clusterCheck}
+use Rattle.records.specs.Room.{Room, mostReserve, roomOf, roomAt, nodeCount, vmCount, placeOk, clusterCheck}
 use Rattle.records.specs.Plan.{Step, stepAt, stepEnd, stepCount, stepsFrom, stepsOf, planCheck}
 use Rattle.records.specs.declared.faults.ClusterCheck.{ClusterCheck}
 use Rattle.records.specs.declared.faults.ClusterFault.{ClusterFault}
@@ -23,7 +24,7 @@ use Rattle.records.proofs.Laws.Steps.{steps-cons, steps-next, step-within, step
 use Rattle.rules.specs.Moments.{Placement, currentOf, after}
 use Rattle.rules.specs.Rules.{named, targetCheck, stepCheck}
 use Rattle.rules.specs.Cost.{costOf}
-use Rattle.rules.specs.Verdict.{home, onCluster, onTarget, onPlan, onStep, stepsVerdict, planVerdict, verdictOf, faultNumber, faultStep, packed}
+use Rattle.rules.specs.Verdict.{home, onReserve, onCluster, onTarget, onPlan, onStep, stepsVerdict, planVerdict, verdictOf, faultNumber, faultStep, packed}
 use Rattle.rules.specs.Inner.{held, Placed, arrayOf, Walking, stepOf}
 use Rattle.rules.specs.declared.faults.TargetFault.{TargetFault}
 use Rattle.rules.specs.declared.faults.TargetCheck.{TargetCheck}
@@ -31,6 +32,7 @@ use Rattle.rules.specs.declared.faults.StepFault.{StepFault}
 use Rattle.rules.specs.declared.faults.StepCheck.{StepCheck}
 use Rattle.rules.specs.declared.faults.Fault.{Fault}
 use Rattle.rules.specs.declared.faults.Verdict.{Verdict}
+use Rattle.rules.proofs.Laws.Reserve.{current-same, home-same, named-same, cost-same}
 use Rattle.rules.proofs.Laws.Fit.{named-vm, named-to, named-rest}
 use Rattle.rules.proofs.Laws.Sound.{none-check, sound-named}
 use Rattle.rules.proofs.Laws.Places.{current-holds}
@@ -72,38 +74,38 @@ sound-step-named room places step e = sound-named room places step (none-check r
 -- ---- the turns
 
 -- the verdict that is due: the cost of all the steps if nothing is found
-due : List ℕ → List ℕ → List ℕ → ℕ → List Step → Verdict
-due s plan places number steps = stepsVerdict (roomOf s) (Verdict.Accepted (costOf (roomOf s) (stepsOf plan))) (held s places) number steps
+due : ℕ → List ℕ → List ℕ → List ℕ → ℕ → List Step → Verdict
+due reserve s plan places number steps = stepsVerdict (roomAt reserve s) (Verdict.Accepted (costOf (roomAt reserve s) (stepsOf plan))) (held s places) number steps
 
-due-cons : (s plan places : List ℕ) (number : ℕ) (step : Step) (steps : List Step) →
-    due s plan places number (step ∷ steps) ≡ onStep (stepCheck (roomOf s) (held s places) step) number (stepsVerdict (roomOf s) (Verdict.Accepted (costOf (roomOf s) (stepsOf plan))) (after (held s places) step) (suc number) steps)
+due-cons : (reserve : ℕ) (s plan places : List ℕ) (number : ℕ) (step : Step) (steps : List Step) →
+    due reserve s plan places number (step ∷ steps) ≡ onStep (stepCheck (roomAt reserve s) (held s places) step) number (stepsVerdict (roomAt reserve s) (Verdict.Accepted (costOf (roomAt reserve s) (stepsOf plan))) (after (held s places) step) (suc number) steps)
 unfolding due stepsVerdict
-due-cons s plan places number step steps = refl
+due-cons reserve s plan places number step steps = refl
 
-module _ (s plan places : List ℕ) (at left number : ℕ) (w : Walking s plan places at left number) (z : 0 < left) (found : StepCheck)
-    (e : found ≡ stepCheck (roomOf s) (held s places) (stepAt plan at)) where
-  turn : onStep found number (stepsVerdict (roomOf s) (Verdict.Accepted (costOf (roomOf s) (stepsOf plan))) (after (held s places) (stepAt plan at)) (suc number) (stepsFrom plan (stepEnd plan at) (left - 1))) ≡
-      planVerdict (roomOf s) (stepsOf plan)
+module _ (reserve : ℕ) (s plan places : List ℕ) (at left number : ℕ) (w : Walking reserve s plan places at left number) (z : 0 < left) (found : StepCheck)
+    (e : found ≡ stepCheck (roomAt reserve s) (held s places) (stepAt plan at)) where
+  turn : onStep found number (stepsVerdict (roomAt reserve s) (Verdict.Accepted (costOf (roomAt reserve s) (stepsOf plan))) (after (held s places) (stepAt plan at)) (suc number) (stepsFrom plan (stepEnd plan at) (left - 1))) ≡
+      planVerdict (roomAt reserve s) (stepsOf plan)
   unfolding due
   turn =
-      ap (λ (c : StepCheck). onStep c number (stepsVerdict (roomOf s) (Verdict.Accepted (costOf (roomOf s) (stepsOf plan))) (after (held s places) (stepAt plan at)) (suc number) (stepsFrom plan (stepEnd plan at) (left - 1)))) e ∙
-      sym (due-cons s plan places number (stepAt plan at) (stepsFrom plan (stepEnd plan at) (left - 1))) ∙
-      ap (due s plan places number) (sym (steps-cons plan at left (w .steps) z)) ∙ w .verdict
+      ap (λ (c : StepCheck). onStep c number (stepsVerdict (roomAt reserve s) (Verdict.Accepted (costOf (roomAt reserve s) (stepsOf plan))) (after (held s places) (stepAt plan at)) (suc number) (stepsFrom plan (stepEnd plan at) (left - 1)))) e ∙
+      sym (due-cons reserve s plan places number (stepAt plan at) (stepsFrom plan (stepEnd plan at) (left - 1))) ∙
+      ap (due reserve s plan places number) (sym (steps-cons plan at left (w .steps) z)) ∙ w .verdict
 
-  pub turn-faulty : (f : StepFault) → found ≡ StepCheck.Faulty f → Verdict.Refused (Fault.Step f number) ≡ planVerdict (roomOf s) (stepsOf plan)
+  pub turn-faulty : (f : StepFault) → found ≡ StepCheck.Faulty f → Verdict.Refused (Fault.Step f number) ≡ planVerdict (roomAt reserve s) (stepsOf plan)
   unfolding onStep
   turn-faulty f q = simp q at turn
 
   module _ (q : found ≡ StepCheck.Clear) (next : List ℕ) (end : ℕ) (a : next ≡ after places (stepAt plan at)) (b : end ≡ stepEnd plan at) where
     name : named (roomOf s) (held s places) 0 (stepAt plan at) ≡ true
-    name = sound-step-named (roomOf s) (held s places) (stepAt plan at) (sym e ∙ q)
+    name = sym (named-same reserve (roomOf s) (held s places) 0 (stepAt plan at)) ∙ sound-step-named (roomAt reserve s) (held s places) (stepAt plan at) (sym e ∙ q)
 
-    rest-due : stepsVerdict (roomOf s) (Verdict.Accepted (costOf (roomOf s) (stepsOf plan))) (after (held s places) (stepAt plan at)) (suc number) (stepsFrom plan (stepEnd plan at) (left - 1)) ≡
-        planVerdict (roomOf s) (stepsOf plan)
+    rest-due : stepsVerdict (roomAt reserve s) (Verdict.Accepted (costOf (roomAt reserve s) (stepsOf plan))) (after (held s places) (stepAt plan at)) (suc number) (stepsFrom plan (stepEnd plan at) (left - 1)) ≡
+        planVerdict (roomAt reserve s) (stepsOf plan)
     unfolding onStep
     rest-due = simp q at turn
 
-    pub turn-sound : Walking s plan next end (left - 1) (number + 1)
+    pub turn-sound : Walking reserve s plan next end (left - 1) (number + 1)
     turn-sound =
         let c = w .count in
         record {
@@ -113,39 +115,39 @@ module _ (s plan places : List ℕ) (at left number : ℕ) (w : Walking s plan p
           verdict = rw (a, b, after-held s places (held s places) 0 (stepAt plan at) name, add-one number) rest-due;
         }
 
-pub walking-fits : (s plan places : List ℕ) (at left number : ℕ) → Walking s plan places at left number → 0 < left → stepEnd plan at ≤ length plan
-walking-fits s plan places at left number w z = step-within plan at left (w .steps) z
+pub walking-fits : (reserve : ℕ) (s plan places : List ℕ) (at left number : ℕ) → Walking reserve s plan places at left number → 0 < left → stepEnd plan at ≤ length plan
+walking-fits reserve s plan places at left number w z = step-within plan at left (w .steps) z
 
-pub walking-placed : (s plan places : List ℕ) (at left number : ℕ) → Walking s plan places at left number → Placed s places
-walking-placed s plan places at left number w = w .placed
+pub walking-placed : (reserve : ℕ) (s plan places : List ℕ) (at left number : ℕ) → Walking reserve s plan places at left number → Placed s places
+walking-placed reserve s plan places at left number w = w .placed
 
 steps-of : (plan : List ℕ) → stepsFrom plan 7 (stepCount plan) ≡ stepsOf plan
 unfolding stepsOf
 steps-of plan = refl
 
-pub walking-start : (s plan places : List ℕ) (left : ℕ) → places ≡ arrayOf (currentOf (roomOf s)) → left ≡ stepCount plan → clusterCheck s ≡ ClusterCheck.Whole →
-    planCheck plan ≡ PlanCheck.Whole → Walking s plan places 7 left 1
+pub walking-start : (reserve : ℕ) (s plan places : List ℕ) (left : ℕ) → places ≡ arrayOf (currentOf (roomOf s)) → left ≡ stepCount plan → clusterCheck s ≡ ClusterCheck.Whole →
+    planCheck plan ≡ PlanCheck.Whole → Walking reserve s plan places 7 left 1
 unfolding planVerdict
-walking-start s plan places left e q w p =
+walking-start reserve s plan places left e q w p =
     let h = current-holds s places e w in
     let m = steps-most plan p in
     record {
       steps = rw q (steps-start plan p);
       placed = h .placed;
       count = omega arith;
-      verdict = rw (h .is, q, steps-of plan);
+      verdict = rw (h .is, q, steps-of plan, current-same reserve (roomOf s));
     }
 
 -- the end
-module _ (s plan places : List ℕ) (at left number : ℕ) (w : Walking s plan places at left number) (z : left ≤ 0) (ok : Bool) (e : ok ≡ home (roomOf s) (held s places)) where
-  last : pick ok (Verdict.Accepted (costOf (roomOf s) (stepsOf plan))) (Verdict.Refused Fault.OffTarget) ≡ planVerdict (roomOf s) (stepsOf plan)
+module _ (reserve : ℕ) (s plan places : List ℕ) (at left number : ℕ) (w : Walking reserve s plan places at left number) (z : left ≤ 0) (ok : Bool) (e : ok ≡ home (roomOf s) (held s places)) where
+  last : pick ok (Verdict.Accepted (costOf (roomAt reserve s) (stepsOf plan))) (Verdict.Refused Fault.OffTarget) ≡ planVerdict (roomAt reserve s) (stepsOf plan)
   unfolding stepsVerdict stepsFrom
-  last = let n : left ≡ 0 = omega arith in rw e (rw n at (w .verdict))
+  last = let n : left ≡ 0 = omega arith in rw (e, ← home-same reserve (roomOf s) (held s places)) (rw n at (w .verdict))
 
-  pub end-home : (cost : ℕ) → cost ≡ costOf (roomOf s) (stepsOf plan) → ok ≡ true → Verdict.Accepted cost ≡ planVerdict (roomOf s) (stepsOf plan)
-  end-home cost c o = ap Verdict.Accepted c ∙ (simp o at last)
+  pub end-home : (cost : ℕ) → cost ≡ costOf (roomOf s) (stepsOf plan) → ok ≡ true → Verdict.Accepted cost ≡ planVerdict (roomAt reserve s) (stepsOf plan)
+  end-home cost c o = ap Verdict.Accepted (c ∙ sym (cost-same reserve (roomOf s) (stepsOf plan))) ∙ (simp o at last)
 
-  pub end-away : ok ≡ false → Verdict.Refused Fault.OffTarget ≡ planVerdict (roomOf s) (stepsOf plan)
+  pub end-away : ok ≡ false → Verdict.Refused Fault.OffTarget ≡ planVerdict (roomAt reserve s) (stepsOf plan)
   end-away o = simp o at last
 
 -- ---- the checking order around them
@@ -167,18 +169,22 @@ module _ (rest : Verdict) where
   unfolding onTarget
   target-fine found check r e g q = rw (sym e ∙ q) g
 
-module _ (cluster plan : List ℕ) (found : ClusterCheck) (e : found ≡ clusterCheck cluster) where
-  pub cluster-damaged : (f : ClusterFault) → found ≡ ClusterCheck.Damaged f → Verdict.Refused (Fault.Cluster f) ≡ verdictOf cluster plan
-  unfolding verdictOf onCluster
-  cluster-damaged f q = rw (sym e ∙ q)
+module _ (reserve : ℕ) (cluster plan : List ℕ) (found : ClusterCheck) (e : found ≡ clusterCheck cluster) (h : reserve ≤ mostReserve) where
+  pub cluster-damaged : (f : ClusterFault) → found ≡ ClusterCheck.Damaged f → Verdict.Refused (Fault.Cluster f) ≡ verdictOf reserve cluster plan
+  unfolding verdictOf onReserve onCluster
+  cluster-damaged f q = rw (le-ltb mostReserve reserve h, sym e ∙ q)
 
-  pub cluster-fine : (r : Verdict) → r ≡ onTarget (targetCheck (roomOf cluster)) (onPlan (planCheck plan) (planVerdict (roomOf cluster) (stepsOf plan))) → found ≡ ClusterCheck.Whole →
-      r ≡ verdictOf cluster plan
-  unfolding verdictOf onCluster
-  cluster-fine r g q = rw (sym e ∙ q) g
+  pub cluster-fine : (r : Verdict) → r ≡ onTarget (targetCheck (roomAt reserve cluster)) (onPlan (planCheck plan) (planVerdict (roomAt reserve cluster) (stepsOf plan))) → found ≡ ClusterCheck.Whole →
+      r ≡ verdictOf reserve cluster plan
+  unfolding verdictOf onReserve onCluster
+  cluster-fine r g q = rw (le-ltb mostReserve reserve h, sym e ∙ q) g
 
-  pub cluster-whole : found ≡ ClusterCheck.Whole → clusterCheck cluster ≡ ClusterCheck.Whole
-  cluster-whole q = sym e ∙ q
+pub reserve-above : (reserve : ℕ) (cluster plan : List ℕ) → mostReserve < reserve → Verdict.Refused Fault.Reserve ≡ verdictOf reserve cluster plan
+unfolding verdictOf onReserve
+reserve-above reserve cluster plan h = rw (lt-ltb mostReserve reserve h)
+
+pub cluster-whole : (cluster : List ℕ) (found : ClusterCheck) → found ≡ clusterCheck cluster → found ≡ ClusterCheck.Whole → clusterCheck cluster ≡ ClusterCheck.Whole
+cluster-whole cluster found e q = sym e ∙ q
 
 pub plan-is-whole : (plan : List ℕ) (found : PlanCheck) → found ≡ planCheck plan → found ≡ PlanCheck.Whole → planCheck plan ≡ PlanCheck.Whole
 plan-is-whole plan found e q = sym e ∙ q
@@ -193,9 +199,9 @@ pub pack-fits : (v : Verdict) (f : Fault) (number step : ℕ) → v ≡ Verdict.
 pack-fits v f number step e a b m = let k : faultStep f ≤ 512 = rw e at m in record { fits = omega arith }
 
 -- the verdict on two records packs
-pub verdict-packs : (cluster plan : List ℕ) (v : Verdict) → v ≡ verdictOf cluster plan → stepOf v ≤ 512
-verdict-packs cluster plan (Verdict.Accepted cost) e = omega arith
-verdict-packs cluster plan (Verdict.Refused f) e = step-most cluster plan f (sym e)
+pub verdict-packs : (reserve : ℕ) (cluster plan : List ℕ) (v : Verdict) → v ≡ verdictOf reserve cluster plan → stepOf v ≤ 512
+verdict-packs reserve cluster plan (Verdict.Accepted cost) e = omega arith
+verdict-packs reserve cluster plan (Verdict.Refused f) e = step-most reserve cluster plan f (sym e)
 
-pub checked-packed : (cluster plan : List ℕ) (v : Verdict) (r : ℕ) → v ≡ verdictOf cluster plan → r ≡ packed v → AreBytes cluster → Checked cluster plan r
-checked-packed cluster plan v r g e b = contract cluster plan b r (e ∙ ap packed g)
+pub checked-packed : (reserve : ℕ) (cluster plan : List ℕ) (v : Verdict) (r : ℕ) → v ≡ verdictOf reserve cluster plan → r ≡ packed v → AreBytes cluster → Checked reserve cluster plan r
+checked-packed reserve cluster plan v r g e b = contract reserve cluster plan b r (e ∙ ap packed g)

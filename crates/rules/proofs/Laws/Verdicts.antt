@@ -7,10 +7,10 @@ use mathlib.Core.Path.{_≡_, refl, sym, ap, _∙_}
 use native.Mathlib.Decide.{ℕ-discrete}
 use native.Mathlib.Omega.{arith}
 use lib.ListN.{length, getD, take, length-map}
-use lib.Dec.{eqb}
-use borrow.Author.Tests.{eqb-true, eqb-false}
+use lib.Dec.{ltb, eqb}
+use borrow.Author.Tests.{lt-ltb, le-ltb, ltb-true, ltb-false, eqb-true, eqb-false}
 use Rattle.records.specs.Base.{pick, all}
-use Rattle.records.specs.Room.{Room, roomOf, clusterCheck}
+use Rattle.records.specs.Room.{Room, mostReserve, roomAt, clusterCheck}
 use Rattle.records.specs.Plan.{Step, stepCount, stepsOf, planCheck, headerBytes}
 use Rattle.records.specs.declared.faults.ClusterCheck.{ClusterCheck}
 use Rattle.records.specs.declared.faults.PlanCheck.{PlanCheck}
@@ -20,7 +20,7 @@ use Rattle.records.proofs.Laws.RoundTrip.{header-whole, header-steps}
 use Rattle.rules.specs.Moments.{Placement, placeOf, currentOf, targetOf, after}
 use Rattle.rules.specs.Rules.{from, targetCheck, sourced, fitting, stepCheck, soundStep}
 use Rattle.rules.specs.Cost.{costFrom, costOf}
-use Rattle.rules.specs.Verdict.{home, onCluster, onTarget, onPlan, onStep, stepsVerdict, planVerdict, verdictOf, faultStep}
+use Rattle.rules.specs.Verdict.{home, onReserve, onCluster, onTarget, onPlan, onStep, stepsVerdict, planVerdict, verdictOf, faultStep}
 use Rattle.rules.specs.Promises.{afterAll, namedAll, sourcedAll, soundAll, Shaped, EveryRun, FaultNames, FaultSource, FaultDestination, FaultFit, FaultMate, FirstAtFault, EndsAway}
 use Rattle.rules.specs.declared.faults.TargetCheck.{TargetCheck}
 use Rattle.rules.specs.declared.faults.StepFault.{StepFault}
@@ -319,21 +319,40 @@ ends-away room places steps l = (runs, found)
 
 -- ---- the verdict on two records
 
--- with none of the faults 1 to 14 it is the verdict on the steps
-pub shaped-verdict : (cluster plan : List ℕ) → Shaped cluster plan → verdictOf cluster plan ≡ planVerdict (roomOf cluster) (stepsOf plan)
-unfolding verdictOf onCluster onTarget onPlan
-shaped-verdict cluster plan h = simp (h .cluster-whole, h .target-good, h .plan-whole)
+-- with none of the faults 23 and 1 to 14 it is the verdict on the steps
+pub shaped-verdict : (reserve : ℕ) (cluster plan : List ℕ) → Shaped reserve cluster plan → verdictOf reserve cluster plan ≡ planVerdict (roomAt reserve cluster) (stepsOf plan)
+unfolding verdictOf onReserve onCluster onTarget onPlan
+shaped-verdict reserve cluster plan h = simp (le-ltb mostReserve reserve (h .reserve-taken), h .cluster-whole, h .target-good, h .plan-whole)
 
--- a verdict that is reached only then
-abbrev late : Verdict → Bool
-late (Verdict.Accepted cost) = true
-late (Verdict.Refused (Fault.Cluster fault)) = false
-late (Verdict.Refused (Fault.Target fault)) = false
-late (Verdict.Refused (Fault.Plan fault)) = false
-late (Verdict.Refused (Fault.Step fault step)) = true
-late (Verdict.Refused Fault.OffTarget) = true
+-- a verdict that is reached before the cluster is looked at
+abbrev early : Verdict → Bool
+early (Verdict.Accepted cost) = false
+early (Verdict.Refused Fault.Reserve) = true
+early (Verdict.Refused (Fault.Cluster fault)) = false
+early (Verdict.Refused (Fault.Target fault)) = false
+early (Verdict.Refused (Fault.Plan fault)) = false
+early (Verdict.Refused (Fault.Step fault step)) = false
+early (Verdict.Refused Fault.OffTarget) = false
 
-module _ (rest v : Verdict) (l : late v ≡ true) where
+-- a verdict that no check of a record or of the target gives
+abbrev pastChecks : Verdict → Bool
+pastChecks (Verdict.Accepted cost) = true
+pastChecks (Verdict.Refused Fault.Reserve) = true
+pastChecks (Verdict.Refused (Fault.Cluster fault)) = false
+pastChecks (Verdict.Refused (Fault.Target fault)) = false
+pastChecks (Verdict.Refused (Fault.Plan fault)) = false
+pastChecks (Verdict.Refused (Fault.Step fault step)) = true
+pastChecks (Verdict.Refused Fault.OffTarget) = true
+
+on-reserve : (rest v : Verdict) → early v ≡ false → (reserve : ℕ) → onReserve reserve rest ≡ v → (reserve ≤ mostReserve) × (rest ≡ v)
+unfolding onReserve
+on-reserve rest v n reserve e = go (ltb mostReserve reserve) refl e
+  where
+    go : (above : Bool) → ltb mostReserve reserve ≡ above → pick above (Verdict.Refused Fault.Reserve) rest ≡ v → (reserve ≤ mostReserve) × (rest ≡ v)
+    go true a f = absurd (false≢true (sym n ∙ ap early (sym f)))
+    go false a f = (ltb-false mostReserve reserve a, f)
+
+module _ (rest v : Verdict) (l : pastChecks v ≡ true) where
   on-cluster : (c : ClusterCheck) → onCluster c rest ≡ v → (c ≡ ClusterCheck.Whole) × (rest ≡ v)
   unfolding onCluster
   on-cluster ClusterCheck.Whole e = (refl, e)
@@ -349,51 +368,78 @@ module _ (rest v : Verdict) (l : late v ≡ true) where
   on-plan PlanCheck.Whole e = (refl, e)
   on-plan (PlanCheck.Damaged fault) e = absurd (false≢true (rw (← e) at l))
 
-late-shaped : (cluster plan : List ℕ) (v : Verdict) → late v ≡ true → verdictOf cluster plan ≡ v → Shaped cluster plan × (planVerdict (roomOf cluster) (stepsOf plan) ≡ v)
-unfolding verdictOf
-late-shaped cluster plan v l e =
+-- what is behind the test of the reserve
+behind-checks : (reserve : ℕ) (cluster plan : List ℕ) (v : Verdict) → pastChecks v ≡ true →
+    onCluster (clusterCheck cluster) (onTarget (targetCheck (roomAt reserve cluster)) (onPlan (planCheck plan) (planVerdict (roomAt reserve cluster) (stepsOf plan)))) ≡ v →
+    (clusterCheck cluster ≡ ClusterCheck.Whole) × (targetCheck (roomAt reserve cluster) ≡ TargetCheck.Good) × (planCheck plan ≡ PlanCheck.Whole) ×
+    (planVerdict (roomAt reserve cluster) (stepsOf plan) ≡ v)
+behind-checks reserve cluster plan v l e =
     let c = on-cluster _ v l (clusterCheck cluster) e in
-    let t = on-target _ v l (targetCheck (roomOf cluster)) (c .1) in
+    let t = on-target _ v l (targetCheck (roomAt reserve cluster)) (c .1) in
     let p = on-plan _ v l (planCheck plan) (t .1) in
-    (record { cluster-whole = c .0; target-good = t .0; plan-whole = p .0 }, p .1)
+    (c .0, t .0, p .0, p .1)
+
+late-shaped : (reserve : ℕ) (cluster plan : List ℕ) (v : Verdict) → early v ≡ false → pastChecks v ≡ true → verdictOf reserve cluster plan ≡ v →
+    Shaped reserve cluster plan × (planVerdict (roomAt reserve cluster) (stepsOf plan) ≡ v)
+unfolding verdictOf
+late-shaped reserve cluster plan v n l e =
+    let r = on-reserve _ v n reserve e in
+    let b = behind-checks reserve cluster plan v l (r .1) in
+    (record { reserve-taken = r .0; cluster-whole = b .0; target-good = b .1; plan-whole = b .2 }, b .3)
+
+-- the steps say nothing of the reserve
+step-later : (number : ℕ) (rest : Verdict) → early rest ≡ false → (c : StepCheck) → early (onStep c number rest) ≡ false
+unfolding onStep
+step-later number rest l StepCheck.Clear = l
+step-later number rest l (StepCheck.Faulty fault) = refl
+
+module _ (room : Room) (good : Verdict) (g : early good ≡ false) where
+  steps-later : (places : Placement) (number : ℕ) (steps : List Step) → early (stepsVerdict room good places number steps) ≡ false
+  unfolding stepsVerdict
+  steps-later places number [] = go (home room places)
+    where
+      go : (b : Bool) → early (pick b good (Verdict.Refused Fault.OffTarget)) ≡ false
+      go true = g
+      go false = refl
+  steps-later places number (step ∷ steps) = step-later number _ (steps-later (after places step) (suc number) steps) (stepCheck room places step)
 
 pub current-length : (room : Room) → length (currentOf room) ≡ length (room .vms)
 unfolding currentOf
 current-length room = length-map (room .vms) (λ vm. vm .current)
 
-module _ (cluster plan : List ℕ) where
-  pub accepted-steps : (cost : ℕ) → verdictOf cluster plan ≡ Verdict.Accepted cost →
-      StepsAccepted (roomOf cluster) (currentOf (roomOf cluster)) (stepsOf plan) (costOf (roomOf cluster) (stepsOf plan)) cost
+module _ (reserve : ℕ) (cluster plan : List ℕ) where
+  pub accepted-steps : (cost : ℕ) → verdictOf reserve cluster plan ≡ Verdict.Accepted cost →
+      StepsAccepted (roomAt reserve cluster) (currentOf (roomAt reserve cluster)) (stepsOf plan) (costOf (roomAt reserve cluster) (stepsOf plan)) cost
   unfolding planVerdict
   accepted-steps cost e =
-      steps-accepted (roomOf cluster) (costOf (roomOf cluster) (stepsOf plan)) cost (currentOf (roomOf cluster)) 1 (stepsOf plan)
-      (late-shaped cluster plan (Verdict.Accepted cost) refl e .1)
+      steps-accepted (roomAt reserve cluster) (costOf (roomAt reserve cluster) (stepsOf plan)) cost (currentOf (roomAt reserve cluster)) 1 (stepsOf plan)
+      (late-shaped reserve cluster plan (Verdict.Accepted cost) refl refl e .1)
 
-  pub only-holds : (cost : ℕ) → verdictOf cluster plan ≡ Verdict.Accepted cost →
-      Shaped cluster plan × (namedAll (roomOf cluster) (currentOf (roomOf cluster)) (stepsOf plan) ≡ true) ×
-      (sourcedAll (currentOf (roomOf cluster)) (stepsOf plan) ≡ true)
+  pub only-holds : (cost : ℕ) → verdictOf reserve cluster plan ≡ Verdict.Accepted cost →
+      Shaped reserve cluster plan × (namedAll (roomAt reserve cluster) (currentOf (roomAt reserve cluster)) (stepsOf plan) ≡ true) ×
+      (sourcedAll (currentOf (roomAt reserve cluster)) (stepsOf plan) ≡ true)
   only-holds cost e = (
-    late-shaped cluster plan (Verdict.Accepted cost) refl e .0,
-    sound-all-named (roomOf cluster) (currentOf (roomOf cluster)) (stepsOf plan) (accepted-steps cost e .sound),
+    late-shaped reserve cluster plan (Verdict.Accepted cost) refl refl e .0,
+    sound-all-named (roomAt reserve cluster) (currentOf (roomAt reserve cluster)) (stepsOf plan) (accepted-steps cost e .sound),
     accepted-steps cost e .well-sourced,
   )
 
-  pub exact-holds : Shaped cluster plan → namedAll (roomOf cluster) (currentOf (roomOf cluster)) (stepsOf plan) ≡ true →
-      sourcedAll (currentOf (roomOf cluster)) (stepsOf plan) ≡ true →
-      ((cost : ℕ) × (verdictOf cluster plan ≡ Verdict.Accepted cost)) ↔ EveryRun (roomOf cluster) (currentOf (roomOf cluster)) (stepsOf plan)
+  pub exact-holds : Shaped reserve cluster plan → namedAll (roomAt reserve cluster) (currentOf (roomAt reserve cluster)) (stepsOf plan) ≡ true →
+      sourcedAll (currentOf (roomAt reserve cluster)) (stepsOf plan) ≡ true →
+      ((cost : ℕ) × (verdictOf reserve cluster plan ≡ Verdict.Accepted cost)) ↔ EveryRun (roomAt reserve cluster) (currentOf (roomAt reserve cluster)) (stepsOf plan)
   unfolding planVerdict
   exact-holds h n x = (every, accepted)
     where
       room : Room
-      room = roomOf cluster
+      room = roomAt reserve cluster
 
       places : Placement
-      places = currentOf (roomOf cluster)
+      places = currentOf (roomAt reserve cluster)
 
       steps : List Step
       steps = stepsOf plan
 
-      every : ((cost : ℕ) × (verdictOf cluster plan ≡ Verdict.Accepted cost)) → EveryRun room places steps
+      every : ((cost : ℕ) × (verdictOf reserve cluster plan ≡ Verdict.Accepted cost)) → EveryRun room places steps
       every a =
           let s = accepted-steps (a .0) (a .1) in
           record {
@@ -401,67 +447,84 @@ module _ (cluster plan : List ℕ) where
             ends = λ last run. ap (home room) (run-ends n (current-length room) run) ∙ s .arrived;
           }
 
-      accepted : EveryRun room places steps → (cost : ℕ) × (verdictOf cluster plan ≡ Verdict.Accepted cost)
+      accepted : EveryRun room places steps → (cost : ℕ) × (verdictOf reserve cluster plan ≡ Verdict.Accepted cost)
       accepted a =
           let r = some-run room places steps in (
             costOf room steps,
-            shaped-verdict cluster plan h ∙
+            shaped-verdict reserve cluster plan h ∙
                 steps-good room (Verdict.Accepted (costOf room steps)) places 1 steps (runs-sound room places steps n (current-length room) (a .obeys)) x
                 (sym (ap (home room) (run-ends n (current-length room) (r .1))) ∙ a .ends (r .0) (r .1)),
           )
 
   -- a refusal for a step
-  pub step-refusal : (fault : StepFault) (n : ℕ) → (verdictOf cluster plan ≡ Verdict.Refused (Fault.Step fault (suc n))) ↔
-      (Shaped cluster plan × StepRefused (roomOf cluster) (currentOf (roomOf cluster)) (stepsOf plan) fault n)
+  pub step-refusal : (fault : StepFault) (n : ℕ) → (verdictOf reserve cluster plan ≡ Verdict.Refused (Fault.Step fault (suc n))) ↔
+      (Shaped reserve cluster plan × StepRefused (roomAt reserve cluster) (currentOf (roomAt reserve cluster)) (stepsOf plan) fault n)
   unfolding planVerdict
   step-refusal fault n = (refuses, refused)
     where
       room : Room
-      room = roomOf cluster
+      room = roomAt reserve cluster
 
-      refuses : verdictOf cluster plan ≡ Verdict.Refused (Fault.Step fault (suc n)) → Shaped cluster plan × StepRefused room (currentOf room) (stepsOf plan) fault n
+      refuses : verdictOf reserve cluster plan ≡ Verdict.Refused (Fault.Step fault (suc n)) → Shaped reserve cluster plan × StepRefused room (currentOf room) (stepsOf plan) fault n
       refuses e =
-          let h = late-shaped cluster plan (Verdict.Refused (Fault.Step fault (suc n))) refl e in
+          let h = late-shaped reserve cluster plan (Verdict.Refused (Fault.Step fault (suc n))) refl refl e in
           let r = steps-refused room (costOf room (stepsOf plan)) fault (currentOf room) 1 (suc n) (stepsOf plan) (h .1) in
           let k = r .1 in
           let i : r .0 ≡ n = omega arith in
           (h .0, rw i at (r .2))
 
-      refused : Shaped cluster plan × StepRefused room (currentOf room) (stepsOf plan) fault n → verdictOf cluster plan ≡ Verdict.Refused (Fault.Step fault (suc n))
+      refused : Shaped reserve cluster plan × StepRefused room (currentOf room) (stepsOf plan) fault n → verdictOf reserve cluster plan ≡ Verdict.Refused (Fault.Step fault (suc n))
       refused r =
           let k : 1 + n ≡ suc n = omega arith in
-          shaped-verdict cluster plan (r .0) ∙
+          shaped-verdict reserve cluster plan (r .0) ∙
           rw k at (refused-steps room (Verdict.Accepted (costOf room (stepsOf plan))) fault (currentOf room) 1 n (stepsOf plan) (r .1))
 
   -- none for a source, where no step names a wrong one
-  pub none-elsewhere : sourcedAll (currentOf (roomOf cluster)) (stepsOf plan) ≡ true → (m : ℕ) → verdictOf cluster plan ≡ Verdict.Refused (Fault.Step StepFault.Elsewhere m) → ⊥
+  pub none-elsewhere : sourcedAll (currentOf (roomAt reserve cluster)) (stepsOf plan) ≡ true → (m : ℕ) → verdictOf reserve cluster plan ≡ Verdict.Refused (Fault.Step StepFault.Elsewhere m) → ⊥
   unfolding planVerdict
   none-elsewhere x m e =
-      let h = late-shaped cluster plan (Verdict.Refused (Fault.Step StepFault.Elsewhere m)) refl e in
-      let room = roomOf cluster in
+      let h = late-shaped reserve cluster plan (Verdict.Refused (Fault.Step StepFault.Elsewhere m)) refl refl e in
+      let room = roomAt reserve cluster in
       let r = steps-refused room (costOf room (stepsOf plan)) StepFault.Elsewhere (currentOf room) 1 m (stepsOf plan) (h .1) in
       let t = elsewhere-check room (afterAll (currentOf room) (take (r .0) (stepsOf plan))) (getD (stepsOf plan) (r .0) []) .0 (r .2 .check) in
       false≢true (sym (t .elsewhere) ∙ sourced-at (currentOf room) (stepsOf plan) (r .0) x (r .2 .there))
 
+  -- a refusal for the reserve
+  pub reserve-refusal : (verdictOf reserve cluster plan ≡ Verdict.Refused Fault.Reserve) ↔ (mostReserve < reserve)
+  unfolding verdictOf onReserve planVerdict
+  reserve-refusal = (λ e. above (ltb mostReserve reserve) refl e, λ h. rw (lt-ltb mostReserve reserve h))
+    where
+      room : Room
+      room = roomAt reserve cluster
+
+      above : (x : Bool) → ltb mostReserve reserve ≡ x →
+          pick x (Verdict.Refused Fault.Reserve) (onCluster (clusterCheck cluster) (onTarget (targetCheck room) (onPlan (planCheck plan) (planVerdict room (stepsOf plan))))) ≡
+          Verdict.Refused Fault.Reserve → mostReserve < reserve
+      above true q e = ltb-true mostReserve reserve q
+      above false q e =
+          let b = behind-checks reserve cluster plan (Verdict.Refused Fault.Reserve) refl e in
+          absurd (false≢true (sym (steps-later room (Verdict.Accepted (costOf room (stepsOf plan))) refl (currentOf room) 1 (stepsOf plan)) ∙ ap early (b .3)))
+
   -- a refusal at the end
-  pub end-refusal : (verdictOf cluster plan ≡ Verdict.Refused Fault.OffTarget) ↔ (Shaped cluster plan × StepsAway (roomOf cluster) (currentOf (roomOf cluster)) (stepsOf plan))
+  pub end-refusal : (verdictOf reserve cluster plan ≡ Verdict.Refused Fault.OffTarget) ↔ (Shaped reserve cluster plan × StepsAway (roomAt reserve cluster) (currentOf (roomAt reserve cluster)) (stepsOf plan))
   unfolding planVerdict
   end-refusal = (
-    λ e. let h = late-shaped cluster plan (Verdict.Refused Fault.OffTarget) refl e in
-        (h .0, steps-off (roomOf cluster) (costOf (roomOf cluster) (stepsOf plan)) (currentOf (roomOf cluster)) 1 (stepsOf plan) (h .1)),
-    λ a. shaped-verdict cluster plan (a .0) ∙
-        steps-away (roomOf cluster) (Verdict.Accepted (costOf (roomOf cluster) (stepsOf plan))) (currentOf (roomOf cluster)) 1 (stepsOf plan) (a .1 .sound) (a .1 .well-sourced) (a .1 .missed),
+    λ e. let h = late-shaped reserve cluster plan (Verdict.Refused Fault.OffTarget) refl refl e in
+        (h .0, steps-off (roomAt reserve cluster) (costOf (roomAt reserve cluster) (stepsOf plan)) (currentOf (roomAt reserve cluster)) 1 (stepsOf plan) (h .1)),
+    λ a. shaped-verdict reserve cluster plan (a .0) ∙
+        steps-away (roomAt reserve cluster) (Verdict.Accepted (costOf (roomAt reserve cluster) (stepsOf plan))) (currentOf (roomAt reserve cluster)) 1 (stepsOf plan) (a .1 .sound) (a .1 .well-sourced) (a .1 .missed),
   )
 
   -- the step of a refusal is one of the plan's
-  pub step-most : (f : Fault) → verdictOf cluster plan ≡ Verdict.Refused f → faultStep f ≤ 512
+  pub step-most : (f : Fault) → verdictOf reserve cluster plan ≡ Verdict.Refused f → faultStep f ≤ 512
   unfolding planVerdict stepsOf
+  step-most Fault.Reserve e = omega arith
   step-most (Fault.Cluster fault) e = omega arith
   step-most (Fault.Target fault) e = omega arith
   step-most (Fault.Plan fault) e = omega arith
   step-most (Fault.Step fault s) e =
-      let h = late-shaped cluster plan (Verdict.Refused (Fault.Step fault s)) refl e in
-      let r = steps-refused (roomOf cluster) (costOf (roomOf cluster) (stepsOf plan)) fault (currentOf (roomOf cluster)) 1 s (stepsOf plan) (h .1) in
+      let h = late-shaped reserve cluster plan (Verdict.Refused (Fault.Step fault s)) refl refl e in
+      let r = steps-refused (roomAt reserve cluster) (costOf (roomAt reserve cluster) (stepsOf plan)) fault (currentOf (roomAt reserve cluster)) 1 s (stepsOf plan) (h .1) in
       let k = r .1 in
       let l = r .2 .there in
       let m = steps-most plan (h .0 .plan-whole) in
@@ -471,17 +534,18 @@ module _ (cluster plan : List ℕ) where
 
 -- ---- a plan of no steps
 
-module _ (cluster : List ℕ) where
-  -- whatever its bytes: behind the faults of the cluster it is refused with 19, or accepted at no cost
+module _ (reserve : ℕ) (cluster : List ℕ) where
+  -- whatever its bytes: behind 23 and the faults of the cluster it is refused with 19, or accepted at no cost
   pub no-steps : (plan : List ℕ) → planCheck plan ≡ PlanCheck.Whole → stepsOf plan ≡ [] →
-      verdictOf cluster plan ≡
-      onCluster (clusterCheck cluster)
-      (onTarget (targetCheck (roomOf cluster))
-      (pick (home (roomOf cluster) (currentOf (roomOf cluster))) (Verdict.Accepted 0) (Verdict.Refused Fault.OffTarget)))
+      verdictOf reserve cluster plan ≡
+      onReserve reserve
+      (onCluster (clusterCheck cluster)
+      (onTarget (targetCheck (roomAt reserve cluster))
+      (pick (home (roomAt reserve cluster) (currentOf (roomAt reserve cluster))) (Verdict.Accepted 0) (Verdict.Refused Fault.OffTarget))))
   unfolding verdictOf onPlan planVerdict stepsVerdict costOf costFrom
   no-steps plan w e = rw (w, e) refl
 
-  -- 0 bytes and a header with 0 steps, of either version: the same verdict on every cluster, whatever its bytes
-  pub empty-as-header : (version : ℕ) → (version ≡ 1) ⊎ (version ≡ 2) → verdictOf cluster [] ≡ verdictOf cluster (headerBytes version 7 0)
+  -- 0 bytes and a header with 0 steps, of either version: the same verdict at every reserve on every cluster, whatever its bytes
+  pub empty-as-header : (version : ℕ) → (version ≡ 1) ⊎ (version ≡ 2) → verdictOf reserve cluster [] ≡ verdictOf reserve cluster (headerBytes version 7 0)
   empty-as-header version k =
       no-steps [] (sym (plan-empty [] refl)) (empty-steps [] refl) ∙ sym (no-steps (headerBytes version 7 0) (header-whole version k) (header-steps version))

@@ -15,7 +15,7 @@ pack-requires : tie.Need-pack-requires
 pack-requires c κs = search (needs, verdict-packs)
 
 returns : tie.Need-returns
-returns c = checked-packed _ _ _ _ (c .before .verdict-on .ensures) (c .pack .ensures) (λ i. omega (arith, c .before .before .before .shared-slice-known .given i))
+returns c = checked-packed _ _ _ _ _ (c .before .verdict-on .ensures) (c .pack .ensures) (λ i. omega (arith, c .before .before .before .shared-slice-known .given i))
 
 pub check-spec : {M : Type 1} → statement M
 check-spec = tie.close (tie.spec verdict-on-requires pack-requires returns)

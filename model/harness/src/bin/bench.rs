@@ -9,6 +9,7 @@ use kobdrieft_harness::{baseline, check, streams};
 use kobdrieft_model as model;
 use kobdrieft_model::edges::edges;
 use kobdrieft_model::gen::{cases, Rng};
+use kobdrieft_model::reserves::reserved;
 use std::env;
 use std::hint::black_box;
 use std::process::exit;
@@ -65,36 +66,39 @@ fn words(outcome: Outcome) -> String {
 /// Stops unless the input is what it was made to be and all three checkers say so.
 fn verify(input: &Input) {
     for (plan, made_for) in input.plans.iter().zip(input.outcomes) {
-        let verdict = model::check(&input.cluster, plan);
+        let verdict = model::check(input.reserve, &input.cluster, plan);
         let outcome = match verdict {
             model::Verdict::Accepted { .. } => None,
             model::Verdict::Refused { number, step } => Some((number, step)),
         };
         expect(outcome == made_for, input.name, "the model's outcome is another");
         let packed = model::pack_verdict(verdict);
-        expect(check(&input.cluster, plan) == packed, input.name, "the library differs");
-        let simple = baseline::check(&input.cluster, plan);
+        let library = check(input.reserve, &input.cluster, plan);
+        expect(library == packed, input.name, "the library differs");
+        let simple = baseline::check(input.reserve, &input.cluster, plan);
         expect(simple == packed, input.name, "the baseline differs");
     }
 }
 
-/// Compares the baseline with the model on other inputs; how many.
+/// Compares the baseline with the model on other inputs, with no reserve and at some; how many.
 fn verify_baseline() -> usize {
     let mut compared = 0;
-    let mut compare = |cluster: &[u8], plan: &[u8]| {
-        let packed = model::pack_verdict(model::check(cluster, plan));
-        expect(
-            baseline::check(cluster, plan) == packed,
-            "a generated input",
-            "the baseline differs",
-        );
+    let mut compare = |reserve: u64, cluster: &[u8], plan: &[u8]| {
+        let packed = model::pack_verdict(model::check(reserve, cluster, plan));
+        let simple = baseline::check(reserve, cluster, plan);
+        expect(simple == packed, "a generated input", "the baseline differs");
         compared += 1;
     };
-    edges().iter().for_each(|edge| compare(&edge.cluster, &edge.plan));
-    cases(1, 20_000).for_each(|case| compare(&case.cluster, &case.plan));
+    edges().iter().for_each(|edge| compare(edge.reserve, &edge.cluster, &edge.plan));
+    let mut rng = Rng::new(2);
+    for case in cases(1, 20_000) {
+        compare(0, &case.cluster, &case.plan);
+        let (reserve, cluster) = reserved(&mut rng, &case.cluster);
+        compare(reserve, &cluster, &case.plan);
+    }
     let mut rng = Rng::new(1);
     for room in (0..200).map(|_| streams::large(&mut rng)) {
-        room.plans.iter().for_each(|(plan, _)| compare(&room.cluster, plan));
+        room.plans.iter().for_each(|(plan, _)| compare(0, &room.cluster, plan));
     }
     compared
 }
@@ -165,12 +169,12 @@ fn ratios([one, two]: [[f64; 3]; 2]) -> [f64; RATIOS.len()] {
 
 /// Median nanoseconds a call on each version: the library, the model, the baseline.
 fn times(input: &Input) -> [[f64; 3]; 2] {
-    let cluster = &input.cluster[..];
     let [one, two] = [0, 1].map(|version| &input.plans[version][..]);
-    let library = |plan: &[u8]| check(black_box(cluster), black_box(plan));
+    let (reserve, cluster) = (|| black_box(input.reserve), || black_box(&input.cluster[..]));
+    let library = |plan: &[u8]| check(reserve(), cluster(), black_box(plan));
     let plain =
-        |plan: &[u8]| model::pack_verdict(model::check(black_box(cluster), black_box(plan)));
-    let simple = |plan: &[u8]| baseline::check(black_box(cluster), black_box(plan));
+        |plan: &[u8]| model::pack_verdict(model::check(reserve(), cluster(), black_box(plan)));
+    let simple = |plan: &[u8]| baseline::check(reserve(), cluster(), black_box(plan));
     let [a, b, c, d, e, f] = measure([
         &|| library(one),
         &|| library(two),
@@ -228,18 +232,19 @@ mod planning {
 
     fn by_library(task: &Task) -> Built {
         let mut out = [0; BUFFER];
-        (build(black_box(&task.cluster), &mut out), out)
+        (build(black_box(task.reserve), black_box(&task.cluster), &mut out), out)
     }
 
     fn by_model(task: &Task) -> Built {
         let mut out = [0; BUFFER];
-        (model::pack_answer(model::build(black_box(&task.cluster), &mut out)), out)
+        let (reserve, cluster) = (black_box(task.reserve), black_box(&task.cluster));
+        (model::pack_answer(model::build(reserve, cluster, &mut out)), out)
     }
 
     /// Stops unless the room is what it was made to be and library and model say the same of it;
     /// the moves of its plan.
     fn verify(task: &Task) -> u16 {
-        let answer = model::build(&task.cluster, &mut [0; BUFFER]);
+        let answer = model::build(task.reserve, &task.cluster, &mut [0; BUFFER]);
         let (ends, steps, moves) = match answer {
             Answer::Plan { steps, moves, .. } => (Ends::Plan, steps, moves),
             Answer::Blocked { steps, moves, .. } => (Ends::Blocked, steps, moves),

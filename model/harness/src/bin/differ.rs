@@ -1,13 +1,15 @@
 //! `differ SEED COUNT [--seconds N]`: holds the library beside the model on all hand-set inputs,
 //! on COUNT generated ones, on as many puzzles for the planner and on larger rooms, and fails on
 //! any difference. Each of their clusters is also checked beside no plan bytes and beside the
-//! header of a plan of no steps in either version, which must get one verdict.
+//! header of a plan of no steps in either version, which must get one verdict. All of this is done
+//! with no reserve, and some of it once more at one.
 use kobdrieft_harness::builds::buffer_length;
 use kobdrieft_harness::report::{Report, Stream};
 use kobdrieft_harness::streams::large;
 use kobdrieft_model::edges::edges;
-use kobdrieft_model::gen::{cases, Rng};
-use kobdrieft_model::{cluster_bytes, planner::BUFFER, puzzles::puzzle};
+use kobdrieft_model::gen::{cases, Case, Rng};
+use kobdrieft_model::planner::{make_steps, BUFFER};
+use kobdrieft_model::{cluster_bytes, named, plan_bytes, puzzles::puzzle, reserves::reserved};
 use std::env;
 use std::process::exit;
 use std::time::{Duration, Instant};
@@ -54,9 +56,9 @@ fn read_words(words: &[String]) -> Option<Words> {
 
 fn hand_set(report: &mut Report) {
     for edge in edges() {
-        report.check(Stream::HandSet, &edge.cluster, &edge.plan, None);
-        report.no_steps(Stream::HandSet, &edge.cluster);
-        report.build(Stream::HandSet, &edge.cluster, edge.buffer);
+        report.check(Stream::HandSet, edge.reserve, &edge.cluster, &edge.plan, None);
+        report.no_steps(Stream::HandSet, edge.reserve, &edge.cluster);
+        report.build(Stream::HandSet, edge.reserve, &edge.cluster, edge.buffer);
     }
 }
 
@@ -66,16 +68,18 @@ fn generated(report: &mut Report, words: &Words) -> usize {
     let start = Instant::now();
     let mut rooms = Rng::new(!words.seed);
     let mut puzzles = Rng::new(!words.seed);
+    let mut reserves = Rng::new(!words.seed);
     for (i, case) in cases(words.seed, words.count).enumerate() {
         if words.time.is_some_and(|time| start.elapsed() >= time) {
             println!("time is up after {i} generated cases");
             return i;
         }
-        report.check(Stream::Generated, &case.cluster, &case.plan, case.origin);
-        report.no_steps(Stream::Generated, &case.cluster);
+        report.check(Stream::Generated, 0, &case.cluster, &case.plan, case.origin);
+        report.no_steps(Stream::Generated, 0, &case.cluster);
         planned(report, i, &case.cluster, &mut puzzles);
+        at_a_reserve(report, i, &case, &mut reserves);
         if i % CASES_A_ROOM == 0 {
-            large_room(report, &mut rooms);
+            large_room(report, &mut rooms, &mut reserves);
         }
     }
     words.count
@@ -84,18 +88,40 @@ fn generated(report: &mut Report, words: &Words) -> usize {
 /// Every other case's cluster, whole or damaged, and a puzzle.
 fn planned(report: &mut Report, turn: usize, cluster: &[u8], puzzles: &mut Rng) {
     if turn.is_multiple_of(2) {
-        report.build(Stream::Generated, cluster, buffer_length(turn / 2));
+        report.build(Stream::Generated, 0, cluster, buffer_length(turn / 2));
     }
     let puzzle = cluster_bytes(&puzzle(puzzles));
-    report.no_steps(Stream::Puzzles, &puzzle);
-    report.build(Stream::Puzzles, &puzzle, buffer_length(turn));
+    report.no_steps(Stream::Puzzles, 0, &puzzle);
+    report.build(Stream::Puzzles, 0, &puzzle, buffer_length(turn));
 }
 
-fn large_room(report: &mut Report, rng: &mut Rng) {
+/// Every other case's cluster at a reserve, with its plan; in between a puzzle, with what is planned for
+/// it with no reserve.
+fn at_a_reserve(report: &mut Report, turn: usize, case: &Case, rng: &mut Rng) {
+    let (stream, cluster, plan) = if turn.is_multiple_of(2) {
+        (Stream::Generated, case.cluster.clone(), case.plan.clone())
+    } else {
+        let puzzle = puzzle(rng);
+        let plan = plan_bytes(&named(&puzzle, &make_steps(&puzzle).0));
+        (Stream::Puzzles, cluster_bytes(&puzzle), plan)
+    };
+    let (reserve, cluster) = reserved(rng, &cluster);
+    report.check(stream, reserve, &cluster, &plan, None);
+    report.no_steps(stream, reserve, &cluster);
+    report.build(stream, reserve, &cluster, buffer_length(turn / 2));
+}
+
+/// A larger room with all its plans, then with one of them at a reserve.
+fn large_room(report: &mut Report, rng: &mut Rng, reserves: &mut Rng) {
     let room = large(rng);
     for (plan, origin) in &room.plans {
-        report.check(Stream::Large, &room.cluster, plan, *origin);
+        report.check(Stream::Large, 0, &room.cluster, plan, *origin);
     }
-    report.no_steps(Stream::Large, &room.cluster);
-    report.build(Stream::Large, &room.cluster, BUFFER);
+    report.no_steps(Stream::Large, 0, &room.cluster);
+    report.build(Stream::Large, 0, &room.cluster, BUFFER);
+    let (reserve, cluster) = reserved(reserves, &room.cluster);
+    let (plan, _) = &room.plans[reserves.below(room.plans.len())];
+    report.check(Stream::Large, reserve, &cluster, plan, None);
+    report.no_steps(Stream::Large, reserve, &cluster);
+    report.build(Stream::Large, reserve, &cluster, BUFFER);
 }

@@ -1,10 +1,14 @@
-//! `program PATH SEED COUNT`: runs the planning program on hand-set, generated and larger clusters,
-//! and compares what it prints with the model's text.
+//! `program PATH SEED COUNT [--reserve]`: runs the planning program on hand-set, generated and larger
+//! clusters, and compares what it prints with the model's text. With `--reserve` the program takes a
+//! reserve in decimal digits as its first argument.
 
 use kobdrieft_harness::streams::large;
 use kobdrieft_model::edges::edges;
 use kobdrieft_model::gen::{cases, Rng};
-use kobdrieft_model::{cluster_bytes, puzzles::puzzle, text::plan_text};
+use kobdrieft_model::reserves::{on_the_edge, some_reserve};
+use kobdrieft_model::rules::reserve_fault;
+use kobdrieft_model::text::{plan_text, read_reserve};
+use kobdrieft_model::{cluster_bytes, parse_cluster, puzzles::puzzle};
 use std::env;
 use std::io::Write;
 use std::process::{exit, Command, Stdio};
@@ -16,49 +20,122 @@ const CLUSTERS_A_ROOM: usize = 20;
 /// From so many inputs on, some must be planned with a launch and some with a shutdown.
 const ENOUGH: usize = 1_000;
 
+/// Reserves that come in turn. With their higher bits cut off the last four would be taken.
+const RESERVES: [&str; 9] = [
+    "0",
+    "10",
+    "90",
+    "91",
+    "18446744073709551615",
+    "256",
+    "4294967306",
+    "18446744073709551616",
+    "18446744073709551626",
+];
+
+struct Words {
+    path: String,
+    seed: u64,
+    count: usize,
+    reserves: bool,
+}
+
+/// A cluster record, and the reserve in digits.
+struct Input {
+    reserve: String,
+    cluster: Vec<u8>,
+}
+
 fn main() {
     let words: Vec<String> = env::args().skip(1).collect();
-    let numbers: Vec<usize> = words.iter().skip(1).filter_map(|word| word.parse().ok()).collect();
-    let ([path, ..], &[seed, count]) = (&words[..], &numbers[..]) else {
-        eprintln!("usage: program PATH SEED COUNT");
+    let Some(words) = read_words(&words) else {
+        eprintln!("usage: program PATH SEED COUNT [--reserve]");
         exit(2);
     };
-    let inputs = inputs(seed as u64, count);
-    let (mut version_2, mut launches, mut shutdowns) = (0, 0, 0);
+    let (path, inputs) = (&words.path, inputs(&words));
+    let (mut version_2, mut launches, mut shutdowns, mut too_high) = (0, 0, 0, 0);
     for input in &inputs {
-        let (printed, expected) = (run(path, input), plan_text(input));
+        let Input { reserve, cluster } = input;
+        let expected = plan_text(read_reserve(reserve).expect("digits"), cluster);
+        let printed = run(path, words.reserves.then_some(reserve), cluster);
         if printed != expected {
-            println!("input {input:02x?}\nprogram {printed}model {expected}");
+            println!("reserve {reserve}\ninput {cluster:02x?}\nprogram {printed}model {expected}");
             exit(1);
         }
         let moves = || expected.lines().skip(1).map(|line| line.split(' ').collect::<Vec<_>>());
-        version_2 += usize::from(input.first() == Some(&2));
+        version_2 += usize::from(cluster.first() == Some(&2));
         launches += moves().filter(|words| words[2] == "255").count();
         shutdowns += moves().filter(|words| words[3] == "255").count();
+        too_high += usize::from(expected == "refused 23 step 0\n");
     }
     println!(
         "{path} printed the model's text on {} inputs, {version_2} of version 2, with {launches} \
          launches and {shutdowns} shutdowns",
         inputs.len()
     );
+    if words.reserves {
+        println!("{too_high} of them have a reserve that is too high");
+    }
     if inputs.len() >= ENOUGH && (launches == 0 || shutdowns == 0) {
         println!("the inputs have no launch or no shutdown");
         exit(1);
     }
 }
 
-fn inputs(seed: u64, count: usize) -> Vec<Vec<u8>> {
+fn read_words(words: &[String]) -> Option<Words> {
+    let (seed, count) = (words.get(1)?.parse().ok()?, words.get(2)?.parse().ok()?);
+    let reserves = match words.get(3..)? {
+        [] => false,
+        [flag] if flag == "--reserve" => true,
+        _ => return None,
+    };
+    Some(Words { path: words[0].clone(), seed, count, reserves })
+}
+
+/// Hand-set clusters and others: those with no reserve, or all, each at a reserve.
+fn inputs(words: &Words) -> Vec<Input> {
+    let mut rng = Rng::new(!words.seed);
+    let hand_set = edges().into_iter().filter(|edge| words.reserves || edge.reserve == 0);
+    let hand_set =
+        hand_set.map(|edge| Input { reserve: edge.reserve.to_string(), cluster: edge.cluster });
+    let clusters = clusters(words.seed, words.count).into_iter().enumerate();
+    let others = clusters.map(|(turn, cluster)| match words.reserves {
+        true => at_a_reserve(&mut rng, turn, cluster),
+        false => Input { reserve: "0".to_string(), cluster },
+    });
+    hand_set.chain(others).collect()
+}
+
+/// A cluster at one of `RESERVES` or, every other turn, at one drawn from those that are taken. If it is
+/// taken and the record can be read, the room is on the edge at it.
+fn at_a_reserve(rng: &mut Rng, turn: usize, cluster: Vec<u8>) -> Input {
+    let drawn = some_reserve(rng).to_string();
+    let reserve = match turn % 2 {
+        0 => RESERVES[turn / 2 % RESERVES.len()].to_string(),
+        _ => drawn,
+    };
+    let number = read_reserve(&reserve).expect("digits");
+    let cluster = match parse_cluster(&cluster) {
+        Ok(room) if reserve_fault(number).is_none() => {
+            cluster_bytes(&on_the_edge(rng, number, &room))
+        }
+        _ => cluster,
+    };
+    Input { reserve, cluster }
+}
+
+fn clusters(seed: u64, count: usize) -> Vec<Vec<u8>> {
     let mut rng = Rng::new(seed);
-    let mut inputs: Vec<Vec<u8>> = edges().into_iter().map(|edge| edge.cluster).collect();
+    let mut clusters = Vec::new();
     for (i, case) in cases(seed, count / 2).enumerate() {
-        inputs.push(case.cluster);
-        inputs.push(cluster_bytes(&puzzle(&mut rng)));
+        clusters.push(case.cluster);
+        clusters.push(cluster_bytes(&puzzle(&mut rng)));
         if i % CLUSTERS_A_ROOM == 0 {
-            inputs.push(large(&mut rng).cluster);
-            inputs.push(too_long(&mut rng));
+            clusters.push(large(&mut rng).cluster);
+            clusters.push(too_long(&mut rng));
         }
     }
-    inputs
+    clusters
 }
 
 /// A header and more bytes than a record may have, of a version that is taken or not.
@@ -72,12 +149,13 @@ fn too_long(rng: &mut Rng) -> Vec<u8> {
 }
 
 /// What the program prints on an input. It need not read all of it.
-fn run(path: &str, input: &[u8]) -> String {
-    let started = Command::new(path).stdin(Stdio::piped()).stdout(Stdio::piped()).spawn();
-    let mut child = started.expect("the program starts");
+fn run(path: &str, reserve: Option<&String>, cluster: &[u8]) -> String {
+    let mut command = Command::new(path);
+    command.args(reserve).stdin(Stdio::piped()).stdout(Stdio::piped());
+    let mut child = command.spawn().expect("the program starts");
     let mut stdin = child.stdin.take().expect("it was asked for");
-    let input = input.to_vec();
-    let writer = thread::spawn(move || stdin.write_all(&input));
+    let cluster = cluster.to_vec();
+    let writer = thread::spawn(move || stdin.write_all(&cluster));
     let output = child.wait_with_output().expect("the program ends");
     writer.join().expect("the writer ends").ok();
     if !output.status.success() {

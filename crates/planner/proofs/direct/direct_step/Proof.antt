@@ -18,10 +18,10 @@ use Rattle.rules.proofs.tally.Tally.with.Reads as with-reads
 use Rattle.rules.proofs.need_of.Reads as need-of-reads
 
 abbrev Inv-loop : tie.InvT-loop
-Inv-loop cluster allow pairs places n dests₀ sums₀ v₀ dests sums v = (v ≤ n) × Directing cluster places dests v sums
+Inv-loop reserve cluster allow pairs places n dests₀ sums₀ v₀ dests sums v = (v ≤ n) × Directing reserve cluster places dests v sums
 
 abbrev μ-loop : tie.MeasureT-loop
-μ-loop cluster allow pairs places n dests₀ sums₀ v₀ dests sums v = n - v
+μ-loop reserve cluster allow pairs places n dests₀ sums₀ v₀ dests sums v = n - v
 
 vm-count-requires : tie.Need-vm-count-requires Inv-loop μ-loop
 vm-count-requires c κs = search needs
@@ -47,7 +47,7 @@ array-copy-out-here c = search needs
 goal-requires : tie.Need-goal-requires Inv-loop μ-loop
 goal-requires c κs = let head = c .before .before .before .before .before in
     let pre = head .before .before .before .before .before .pre in
-    (search needs, search needs, search needs, search needs, directing-light _ _ _ _ _ (head .loop .inv .1) (pre .0) (omega arith) _)
+    (search needs, search needs, search needs, search needs, search needs, directing-light _ _ _ _ _ _ (head .loop .inv .1) (pre .0) (omega arith) _)
 
 wide-requires-2 : tie.Need-wide-requires-2 Inv-loop μ-loop
 wide-requires-2 c κs = search needs
@@ -66,7 +66,7 @@ with-requires c κs = let index = c .before .before in
     let sent = index .before in
     let head = sent .before .before .before .before .before .before in
     let pre = head .before .before .before .before .before .pre in
-    let light = directing-light _ _ _ _ _ (head .loop .inv .1) (pre .0) (omega arith) (index .wide2 .result) in
+    let light = directing-light _ _ _ _ _ _ (head .loop .inv .1) (pre .0) (omega arith) (index .wide2 .result) in
     (light .memory, light .cpu, c .need-of .ensures .memory-most, c .need-of .ensures .cpu-most)
 
 mul-sums : tie.Need-mul-sums Inv-loop μ-loop
@@ -93,7 +93,7 @@ loop-again c = let need = c .before in
     let head = target .before .before in
     let pre = head .before .before .before .before .before .pre in (
       omega arith,
-      directing-turn _ _ _ _ _ _ _ _ _ (head .loop .inv .1) (pre .0) (omega (arith, target .before .loop-test .taken, head .before .before .before .vm-count .ensures .0)) (target .vm-target .ensures .0) (here .wide .ensures .0) (sent .goal .ensures) (index .wide2 .ensures .0) (index .wide2 .ensures .1) _ _
+      directing-turn _ _ _ _ _ _ _ _ _ _ (head .loop .inv .1) (pre .0) (omega (arith, target .before .loop-test .taken, head .before .before .before .vm-count .ensures .0)) (target .vm-target .ensures .0) (here .wide .ensures .0) (sent .goal .ensures) (index .wide2 .ensures .0) (index .wide2 .ensures .1) _ _
           (need .need-of .ensures) (c .with .ensures),
     )
 

@@ -3,7 +3,7 @@ use borrow.Author.Needs.{needs}
 use Prim.Native.Nat.{_≤_, _-_}
 use mathlib.Core.Path.{_≡_}
 use lib.ListN.{replicate}
-use Rattle.records.specs.Room.{roomOf}
+use Rattle.records.specs.Room.{roomAt}
 use Rattle.rules.specs.Rules.{from}
 use Rattle.rules.specs.Inner.{held}
 use Rattle.rules.proofs.Laws.Targets.{rest-ready}
@@ -20,10 +20,10 @@ use Rattle.records.proofs.vm_count.Reads as vm-count-reads
 use Rattle.rules.proofs.loads.Reads as loads-reads
 
 abbrev Inv-loop : tie.InvT-loop
-Inv-loop cluster allow pairs places n nodes dests₀ sums v₀ dests v = (v ≤ n) × (dests ≡ replicate 256 64) × (pivotFirst (roomOf cluster) (held cluster places) (from v (n - v)) ≡ pivotStep (roomOf cluster) (held cluster places))
+Inv-loop reserve cluster allow pairs places n nodes dests₀ sums v₀ dests v = (v ≤ n) × (dests ≡ replicate 256 64) × (pivotFirst (roomAt reserve cluster) (held cluster places) (from v (n - v)) ≡ pivotStep (roomAt reserve cluster) (held cluster places))
 
 abbrev μ-loop : tie.MeasureT-loop
-μ-loop cluster allow pairs places n nodes dests₀ sums v₀ dests v = n - v
+μ-loop reserve cluster allow pairs places n nodes dests₀ sums v₀ dests v = n - v
 
 vm-count-requires : tie.Need-vm-count-requires Inv-loop μ-loop
 vm-count-requires c κs = search needs
@@ -51,7 +51,7 @@ returns c =
     let found = c .before in
     let head = found .before .before in
     let nodes = head .before .before .before .before in
-    first-found _ _ _ _ _ _ _ _ (found .useful-node .ensures) (head .loop .inv .2) (head .loop .inv .1) (nodes .node-count .ensures .0) (found .before .loop-test .taken) (c .if1 .taken)
+    first-found _ _ _ _ _ _ _ _ _ (found .useful-node .ensures) (head .loop .inv .2) (head .loop .inv .1) (nodes .node-count .ensures .0) (found .before .loop-test .taken) (c .if1 .taken)
 
 add-v : tie.Need-add-v Inv-loop μ-loop
 add-v c = search needs
@@ -66,7 +66,7 @@ loop-again c =
     let nodes = head .before .before .before .before in (
       omega arith,
       head .loop .inv .1,
-      first-more _ _ _ _ _ _ _ _ (found .useful-node .ensures) (head .loop .inv .2) (head .loop .inv .1) (nodes .node-count .ensures .0) (found .before .loop-test .taken) (c .if1 .left),
+      first-more _ _ _ _ _ _ _ _ _ (found .useful-node .ensures) (head .loop .inv .2) (head .loop .inv .1) (nodes .node-count .ensures .0) (found .before .loop-test .taken) (c .if1 .left),
     )
 
 returns-2 : tie.Need-returns-2 Inv-loop μ-loop

@@ -1,7 +1,8 @@
+use native.Mathlib.Omega.{arith}
 use borrow.Author.Needs.{needs}
 use Prim.Native.Nat.{_≤_, _-_}
 use mathlib.Core.Path.{_≡_}
-use Rattle.records.specs.Room.{roomOf}
+use Rattle.records.specs.Room.{roomAt}
 use Rattle.rules.specs.Rules.{from}
 use Rattle.rules.specs.Inner.{held}
 use Rattle.rules.proofs.Laws.Targets.{rest-ready}
@@ -18,10 +19,10 @@ use Rattle.records.proofs.vm_count.Reads as vm-count-reads
 use Rattle.rules.proofs.loads.Reads as loads-reads
 
 abbrev Inv-loop : tie.InvT-loop
-Inv-loop cluster allow pairs places v p n here u₀ u = (u ≤ n) × (comesTo (roomOf cluster) (held cluster places) v p (from u (n - u)) ≡ comesTo (roomOf cluster) (held cluster places) v p (vmsIn (roomOf cluster)))
+Inv-loop reserve cluster allow pairs places v p n here u₀ u = (u ≤ n) × (comesTo (roomAt reserve cluster) (held cluster places) v p (from u (n - u)) ≡ comesTo (roomAt reserve cluster) (held cluster places) v p (vmsIn (roomAt reserve cluster)))
 
 abbrev μ-loop : tie.MeasureT-loop
-μ-loop cluster allow pairs places v p n here u₀ u = n - u
+μ-loop reserve cluster allow pairs places v p n here u₀ u = n - u
 
 vm-count-requires : tie.Need-vm-count-requires Inv-loop μ-loop
 vm-count-requires c κs = search needs
@@ -51,7 +52,10 @@ loop-less : tie.Need-loop-less Inv-loop μ-loop
 loop-less c = search needs
 
 loop-again : tie.Need-loop-again Inv-loop μ-loop
-loop-again c = search (needs, comes-more)
+loop-again c =
+    let came = c .before in
+    let head = came .before .before in
+    (omega arith, comes-more _ _ _ _ _ _ _ _ (head .loop .inv .1) _ (came .comes .ensures) (came .before .loop-test .taken) (c .if1 .left))
 
 returns-2 : tie.Need-returns-2 Inv-loop μ-loop
 returns-2 c = search (needs, comes-none)

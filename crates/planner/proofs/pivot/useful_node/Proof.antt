@@ -49,7 +49,7 @@ some-comes-requires c κs = let else3 = c .before in
     let place = else2 .before .before .before in
     let start = place .before .before .before .before in
     let pre = start .pre in
-    (search needs, search needs, search needs, set-placed _ _ _ _ (pre .3) (node-place _ _ (omega arith)), place-there _ _ _ _ (place .place-at .ensures .0) (pre .0) (pre .3) (else2 .if2 .left))
+    (search needs, search needs, search needs, search needs, set-placed _ _ _ _ (pre .4) (node-place _ _ (omega arith)), place-there _ _ _ _ (place .place-at .ensures .0) (pre .0) (pre .4) (else2 .if2 .left))
 
 returns-4 : tie.Need-returns-4
 returns-4 c = let came = c .before in
@@ -62,8 +62,8 @@ returns-4 c = let came = c .before in
     let count = place .before .before in
     let start = count .before .before in
     let pre = start .pre in
-    useful-yes _ _ _ _ _ _ (pre .3) (count .node-count .ensures .0) (place .place-at .ensures .0) (target .vm-target .ensures .0) (pre .0) (pre .5) (else1 .if1 .left) (else2 .if2 .left) _ (node .pivot-node .ensures) _
-    (came .some-comes .ensures) (pre .6) (wide .if3 .left) (start .good .1 .1 .1 .0 .1 .0 .1) (c .if4 .taken)
+    useful-yes _ _ _ _ _ _ _ (pre .4) (count .node-count .ensures .0) (place .place-at .ensures .0) (target .vm-target .ensures .0) (pre .0) (pre .6) (else1 .if1 .left) (else2 .if2 .left) _ (node .pivot-node .ensures) _
+    (came .some-comes .ensures) (pre .7) (wide .if3 .left) (start .good .1 .1 .1 .1 .0 .1 .0 .1) (c .if4 .taken)
 
 returns-5 : tie.Need-returns-5
 returns-5 c = let came = c .before in
@@ -76,8 +76,8 @@ returns-5 c = let came = c .before in
     let count = place .before .before in
     let start = count .before .before in
     let pre = start .pre in
-    useful-no _ _ _ _ _ _ (pre .3) (count .node-count .ensures .0) (place .place-at .ensures .0) (target .vm-target .ensures .0) (pre .0) (pre .5) (else1 .if1 .left) (else2 .if2 .left) _ (node .pivot-node .ensures) _
-    (came .some-comes .ensures) (pre .6) (wide .if3 .left) (start .good .1 .1 .1 .0 .1 .0 .1) (c .if4 .left)
+    useful-no _ _ _ _ _ _ _ (pre .4) (count .node-count .ensures .0) (place .place-at .ensures .0) (target .vm-target .ensures .0) (pre .0) (pre .6) (else1 .if1 .left) (else2 .if2 .left) _ (node .pivot-node .ensures) _
+    (came .some-comes .ensures) (pre .7) (wide .if3 .left) (start .good .1 .1 .1 .1 .0 .1 .0 .1) (c .if4 .left)
 
 pub useful-node-spec : {M : Type 1} → statement M
 useful-node-spec =

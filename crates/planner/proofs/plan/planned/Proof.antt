@@ -31,14 +31,14 @@ slice-reshare-prefix-plan-cost c =
     let fin = c .before .before in
     let made = fin .before .before .before .before in
     let pre = made .before .before .before .before .before .before .before .before .before .pre in
-    part-low _ _ _ _ (made .write-steps .ensures) (pre .1) _ (fin .finish-plan .ensures)
+    part-low _ _ _ _ _ (made .write-steps .ensures) (pre .2) _ (fin .finish-plan .ensures)
 
 slice-aggregate-plan-cost : tie.Need-slice-aggregate-plan-cost
 slice-aggregate-plan-cost c =
     let fin = c .before .before .before in
     let made = fin .before .before .before .before in
     let pre = made .before .before .before .before .before .before .before .before .before .pre in
-    sym (part-length _ _ _ _ (made .write-steps .ensures) (pre .1) _ (fin .finish-plan .ensures))
+    sym (part-length _ _ _ _ _ (made .write-steps .ensures) (pre .2) _ (fin .finish-plan .ensures))
 
 plan-cost-requires : tie.Need-plan-cost-requires
 plan-cost-requires c κs = search (needs, part-whole)

@@ -1,6 +1,6 @@
 use borrow.Author.Needs.{needs}
 use borrow.Author.Tests.{not-true, not-false}
-use Rattle.records.specs.Room.{roomOf}
+use Rattle.records.specs.Room.{roomAt}
 use Rattle.rules.specs.Inner.{held}
 use Rattle.planner.proofs.Laws.Budget.{budget}
 use Rattle.planner.proofs.Laws.Making.{Making, making-start, turn-room, turn-fits, steps-low, moves-low, making-less, making-turn, making-length, last-none, making-end}
@@ -18,10 +18,10 @@ use Rattle.rules.proofs.current_places.Reads as current-places-reads
 use Rattle.rules.proofs.at_home.Reads as at-home-reads
 
 abbrev Inv-loop : tie.InvT-loop
-Inv-loop cluster allow pairs out₀ vms places₀ end₀ steps₀ moves₀ out places end steps moves = Making cluster out₀ out places end steps moves
+Inv-loop reserve cluster allow pairs out₀ vms places₀ end₀ steps₀ moves₀ out places end steps moves = Making reserve cluster out₀ out places end steps moves
 
 abbrev μ-loop : tie.MeasureT-loop
-μ-loop cluster allow pairs out₀ vms places₀ end₀ steps₀ moves₀ out places end steps moves = budget (roomOf cluster) (held cluster places)
+μ-loop reserve cluster allow pairs out₀ vms places₀ end₀ steps₀ moves₀ out places end steps moves = budget (roomAt reserve cluster) (held cluster places)
 
 vm-count-requires : tie.Need-vm-count-requires Inv-loop μ-loop
 vm-count-requires c κs = search needs
@@ -32,12 +32,12 @@ current-places-requires c κs = search needs
 loop-holds : tie.Need-loop-holds Inv-loop μ-loop
 loop-holds c =
     let start = c .before .before .before .before in
-    making-start _ _ _ (c .current-places .ensures) (search (needs, c .current-places .ok)) (start .pre .0) (start .pre .3)
+    making-start _ _ _ _ (c .current-places .ensures) (search (needs, c .current-places .ok)) (start .pre .0) (start .pre .4)
 
 next-step-requires : tie.Need-next-step-requires Inv-loop μ-loop
 next-step-requires c κs =
     let pre = c .before .before .before .before .before .pre in
-    (pre .0, pre .1, pre .2, c .loop .inv .placed)
+    (pre .0, pre .1, pre .2, pre .3, c .loop .inv .placed)
 
 has-moves-requires : tie.Need-has-moves-requires Inv-loop μ-loop
 has-moves-requires c κs = search needs
@@ -51,7 +51,7 @@ put-moves-requires c κs =
     let cnt = head .before .before in
     let pre = cnt .before .before .before .pre in
     let ok = not-false _ (els .if1 .left) in
-    (turn-room _ _ _ _ _ _ _ _ _ _ (head .loop .inv) (nxt .next-step .ensures) (has .has-moves .ensures) (cnt .vm-count .ensures .0) (pre .0) ok (pre .3), search needs)
+    (turn-room _ _ _ _ _ _ _ _ _ _ _ (head .loop .inv) (nxt .next-step .ensures) (has .has-moves .ensures) (cnt .vm-count .ensures .0) (pre .0) ok (pre .4), search needs)
 
 finish-step-requires : tie.Need-finish-step-requires Inv-loop μ-loop
 finish-step-requires c κs =
@@ -63,7 +63,7 @@ finish-step-requires c κs =
     let cnt = head .before .before in
     let pre = cnt .before .before .before .pre in
     let ok = not-false _ (els .if1 .left) in
-    turn-fits _ _ _ _ _ _ _ _ _ _ (head .loop .inv) (nxt .next-step .ensures) (has .has-moves .ensures) (cnt .vm-count .ensures .0) (pre .0) ok (pre .3) _ (put .put-moves .ensures .0) _ (put .put-moves .ensures .1)
+    turn-fits _ _ _ _ _ _ _ _ _ _ _ (head .loop .inv) (nxt .next-step .ensures) (has .has-moves .ensures) (cnt .vm-count .ensures .0) (pre .0) ok (pre .4) _ (put .put-moves .ensures .0) _ (put .put-moves .ensures .1)
 
 moved-requires : tie.Need-moved-requires Inv-loop μ-loop
 moved-requires c κs = search needs
@@ -79,7 +79,7 @@ add-steps c =
     let cnt = head .before .before in
     let pre = cnt .before .before .before .pre in
     let ok = not-false _ (els .if1 .left) in
-    steps-low _ _ _ _ _ _ _ _ _ _ (head .loop .inv) (nxt .next-step .ensures) (has .has-moves .ensures) (cnt .vm-count .ensures .0) (pre .0) ok (pre .3) _ (put .put-moves .ensures .0)
+    steps-low _ _ _ _ _ _ _ _ _ _ _ (head .loop .inv) (nxt .next-step .ensures) (has .has-moves .ensures) (cnt .vm-count .ensures .0) (pre .0) ok (pre .4) _ (put .put-moves .ensures .0)
 
 add-moves : tie.Need-add-moves Inv-loop μ-loop
 add-moves c =
@@ -92,7 +92,7 @@ add-moves c =
     let cnt = head .before .before in
     let pre = cnt .before .before .before .pre in
     let ok = not-false _ (els .if1 .left) in
-    moves-low _ _ _ _ _ _ _ _ _ _ (head .loop .inv) (nxt .next-step .ensures) (has .has-moves .ensures) (cnt .vm-count .ensures .0) (pre .0) ok (pre .3) _ (put .put-moves .ensures .0)
+    moves-low _ _ _ _ _ _ _ _ _ _ _ (head .loop .inv) (nxt .next-step .ensures) (has .has-moves .ensures) (cnt .vm-count .ensures .0) (pre .0) ok (pre .4) _ (put .put-moves .ensures .0)
 
 loop-less : tie.Need-loop-less Inv-loop μ-loop
 loop-less c =
@@ -105,7 +105,7 @@ loop-less c =
     let cnt = head .before .before in
     let pre = cnt .before .before .before .pre in
     let ok = not-false _ (els .if1 .left) in
-    making-less _ _ _ _ _ _ _ _ _ _ (head .loop .inv) (nxt .next-step .ensures) (has .has-moves .ensures) (cnt .vm-count .ensures .0) (pre .0) ok (pre .3) _ (put .put-moves .ensures .0) _ (put .put-moves .ensures .1) _ _ _ (fin .finish-step .ensures .0) (fin .finish-step .ensures .1) (c .moved .ensures)
+    making-less _ _ _ _ _ _ _ _ _ _ _ (head .loop .inv) (nxt .next-step .ensures) (has .has-moves .ensures) (cnt .vm-count .ensures .0) (pre .0) ok (pre .4) _ (put .put-moves .ensures .0) _ (put .put-moves .ensures .1) _ _ _ (fin .finish-step .ensures .0) (fin .finish-step .ensures .1) (c .moved .ensures)
 
 loop-again : tie.Need-loop-again Inv-loop μ-loop
 loop-again c =
@@ -118,7 +118,7 @@ loop-again c =
     let cnt = head .before .before in
     let pre = cnt .before .before .before .pre in
     let ok = not-false _ (els .if1 .left) in
-    making-turn _ _ _ _ _ _ _ _ _ _ (head .loop .inv) (nxt .next-step .ensures) (has .has-moves .ensures) (cnt .vm-count .ensures .0) (pre .0) ok (pre .3) _ (put .put-moves .ensures .0) _ (put .put-moves .ensures .1) _ _ _ (fin .finish-step .ensures .0) (fin .finish-step .ensures .1) (c .moved .ensures)
+    making-turn _ _ _ _ _ _ _ _ _ _ _ (head .loop .inv) (nxt .next-step .ensures) (has .has-moves .ensures) (cnt .vm-count .ensures .0) (pre .0) ok (pre .4) _ (put .put-moves .ensures .0) _ (put .put-moves .ensures .1) _ _ _ (fin .finish-step .ensures .0) (fin .finish-step .ensures .1) (c .moved .ensures)
 
 at-home-requires : tie.Need-at-home-requires Inv-loop μ-loop
 at-home-requires c κs = search needs
@@ -127,7 +127,7 @@ same-length : tie.Need-same-length Inv-loop μ-loop
 same-length c =
     let head = c .before .before .before .before .before .before in
     let pre = head .before .before .before .before .before .pre in
-    making-length _ _ _ _ _ _ _ (head .loop .inv) (pre .3)
+    making-length _ _ _ _ _ _ _ _ (head .loop .inv) (pre .4)
 
 returns : tie.Need-returns Inv-loop μ-loop
 returns c =
@@ -137,8 +137,8 @@ returns c =
     let head = nxt .before in
     let cnt = head .before .before in
     let pre = cnt .before .before .before .pre in
-    making-end _ _ _ _ _ _ _ (head .loop .inv) (pre .0)
-    (last-none _ _ _ _ _ _ _ _ _ _ (head .loop .inv) (nxt .next-step .ensures) (has .has-moves .ensures) (cnt .vm-count .ensures .0) (pre .0) (not-true _ (then .if1 .taken)))
+    making-end _ _ _ _ _ _ _ _ (head .loop .inv) (pre .0)
+    (last-none _ _ _ _ _ _ _ _ _ _ _ (head .loop .inv) (nxt .next-step .ensures) (has .has-moves .ensures) (cnt .vm-count .ensures .0) (pre .0) (not-true _ (then .if1 .taken)))
     _ (c .at-home .ensures)
 
 pub write-steps-spec : {M : Type 1} → statement M

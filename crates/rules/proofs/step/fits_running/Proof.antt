@@ -4,7 +4,7 @@ use Prim.Native.Nat.{_≤_, _-_}
 use mathlib.Core.Path.{_≡_}
 use lib.ListN.{drop}
 use borrow.Author.Tests.{not-true, not-false}
-use Rattle.records.specs.Room.{roomOf}
+use Rattle.records.specs.Room.{roomAt}
 use Rattle.records.specs.Plan.{stepAt}
 use Rattle.rules.specs.Inner.{fitsIn}
 use Rattle.rules.proofs.Laws.Fit.{fits-not, fits-more, fits-end}
@@ -18,10 +18,10 @@ use Rattle.rules.proofs.places.wide.Reads as wide-reads
 use Rattle.rules.proofs.step.borne.Reads as borne-reads
 
 abbrev Inv-loop : tie.InvT-loop
-Inv-loop cluster plan at sums n i₀ i = (i ≤ n) × (fitsIn (roomOf cluster) sums (drop i (stepAt plan at)) ≡ fitsIn (roomOf cluster) sums (stepAt plan at))
+Inv-loop reserve cluster plan at sums n i₀ i = (i ≤ n) × (fitsIn (roomAt reserve cluster) sums (drop i (stepAt plan at)) ≡ fitsIn (roomAt reserve cluster) sums (stepAt plan at))
 
 abbrev μ-loop : tie.MeasureT-loop
-μ-loop cluster plan at sums n i₀ i = n - i
+μ-loop reserve cluster plan at sums n i₀ i = n - i
 
 move-count-requires : tie.Need-move-count-requires Inv-loop μ-loop
 move-count-requires c κs = search needs

@@ -1,4 +1,5 @@
 use Rattle.rules.proofs.Laws.Fit.{bears-over, bears-fit, bears-if-idle}
+use Rattle.rules.proofs.Laws.Reserve.{cpu-same}
 use borrow.Author.Tests.{not-true, not-false}
 use borrow.Author.Needs.{needs}
 use Rattle.rules.proofs.tally.bears_vm.Statement.{statement}
@@ -25,7 +26,7 @@ vm-cpu-requires : tie.Need-vm-cpu-requires
 vm-cpu-requires c κs = search needs
 
 returns-3 : tie.Need-returns-3
-returns-3 c = search (needs, bears-if-idle, not-false)
+returns-3 c = search (needs, bears-if-idle, cpu-same, not-false)
 
 pub bears-vm-spec : {M : Type 1} → statement M
 bears-vm-spec =

@@ -9,11 +9,8 @@ use Rattle.records.proofs.node_cpu.Reads as node-cpu-reads
 node-cpu-requires : tie.Need-node-cpu-requires
 node-cpu-requires c κs = search needs
 
-cast-result : tie.Need-cast-result
-cast-result c = search needs
-
 returns : tie.Need-returns
 returns c = search (needs, leb-to)
 
 pub within-cpu-spec : {M : Type 1} → statement M
-within-cpu-spec = tie.close (tie.spec node-cpu-requires cast-result returns)
+within-cpu-spec = tie.close (tie.spec node-cpu-requires returns)

@@ -9,11 +9,8 @@ use Rattle.records.proofs.node_memory.Reads as node-memory-reads
 node-memory-requires : tie.Need-node-memory-requires
 node-memory-requires c κs = search needs
 
-cast-result : tie.Need-cast-result
-cast-result c = search needs
-
 returns : tie.Need-returns
 returns c = search (needs, leb-to)
 
 pub within-memory-spec : {M : Type 1} → statement M
-within-memory-spec = tie.close (tie.spec node-memory-requires cast-result returns)
+within-memory-spec = tie.close (tie.spec node-memory-requires returns)

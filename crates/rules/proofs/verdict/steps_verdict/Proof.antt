@@ -14,10 +14,10 @@ use Rattle.rules.proofs.step.step_check.Reads as step-check-reads
 use Rattle.rules.proofs.wanted.at_home.Reads as at-home-reads
 
 abbrev Inv-loop : tie.InvT-loop
-Inv-loop cluster plan table places₀ at₀ left₀ number₀ places at left number = Walking cluster plan places at left number
+Inv-loop reserve cluster plan table places₀ at₀ left₀ number₀ places at left number = Walking reserve cluster plan places at left number
 
 abbrev μ-loop : tie.MeasureT-loop
-μ-loop cluster plan table places₀ at₀ left₀ number₀ places at left number = left
+μ-loop reserve cluster plan table places₀ at₀ left₀ number₀ places at left number = left
 
 current-places-requires : tie.Need-current-places-requires Inv-loop μ-loop
 current-places-requires c κs = search needs

@@ -2,7 +2,7 @@ use borrow.Author.Needs.{needs}
 use Prim.Native.Nat.{_≤_, _-_}
 use mathlib.Core.Path.{_≡_}
 use borrow.Author.Tests.{not-true, not-false}
-use Rattle.records.specs.Room.{roomOf, nodeCount}
+use Rattle.records.specs.Room.{roomAt, nodeCount}
 use Rattle.rules.specs.Inner.{fitsUpTo}
 use Rattle.rules.proofs.Laws.Targets.{fit-start, fit-not, fit-more, fit-end}
 use Rattle.rules.proofs.wanted.all_fit.Statement.{statement}
@@ -13,10 +13,10 @@ use Rattle.records.proofs.node_count.Reads as node-count-reads
 use Rattle.rules.proofs.tally.within_node.Reads as within-node-reads
 
 abbrev Inv-loop : tie.InvT-loop
-Inv-loop cluster sums n d₀ d = (d ≤ n) × (fitsUpTo (roomOf cluster) sums d (n - d) ≡ fitsUpTo (roomOf cluster) sums 0 (nodeCount cluster))
+Inv-loop reserve cluster sums n d₀ d = (d ≤ n) × (fitsUpTo (roomAt reserve cluster) sums d (n - d) ≡ fitsUpTo (roomAt reserve cluster) sums 0 (nodeCount cluster))
 
 abbrev μ-loop : tie.MeasureT-loop
-μ-loop cluster sums n d₀ d = n - d
+μ-loop reserve cluster sums n d₀ d = n - d
 
 node-count-requires : tie.Need-node-count-requires Inv-loop μ-loop
 node-count-requires c κs = search needs

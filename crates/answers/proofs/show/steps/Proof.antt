@@ -1,12 +1,12 @@
 use borrow.Author.Needs.{needs}
 use Prim.Native.Nat.{_-_}
 use Rattle.records.specs.Inner.{Steps}
-use Rattle.plan.proofs.Laws.{walk-start, walk-here, walk-next}
-use Rattle.plan.proofs.show.steps.Statement.{statement}
-use Rattle.plan.proofs.show.steps.Tie as tie
-use Rattle.plan.proofs.show.steps.Reads as reads
-use Rattle.plan.proofs.show.steps.Lts as lts
-use Rattle.plan.proofs.show.step.Reads as step-reads
+use Rattle.answers.proofs.Laws.{walk-start, walk-here, walk-next}
+use Rattle.answers.proofs.show.steps.Statement.{statement}
+use Rattle.answers.proofs.show.steps.Tie as tie
+use Rattle.answers.proofs.show.steps.Reads as reads
+use Rattle.answers.proofs.show.steps.Lts as lts
+use Rattle.answers.proofs.show.step.Reads as step-reads
 use Rattle.records.proofs.step_count.Reads as step-count-reads
 use Rattle.records.proofs.step_end.Reads as step-end-reads
 use Rattle.rules.proofs.current_places.Reads as current-places-reads

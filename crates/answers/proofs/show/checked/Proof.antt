@@ -1,11 +1,10 @@
 use borrow.Author.Needs.{needs}
-use Rattle.plan.proofs.Laws.{room-is-whole}
-use Rattle.rules.proofs.Laws.Turns.{plan-is-whole}
-use Rattle.plan.proofs.show.checked.Statement.{statement}
-use Rattle.plan.proofs.show.checked.Tie as tie
-use Rattle.plan.proofs.show.checked.Reads as reads
-use Rattle.plan.proofs.show.checked.Lts as lts
-use Rattle.plan.proofs.show.steps.Reads as steps-reads
+use Rattle.rules.proofs.Laws.Turns.{cluster-whole, plan-is-whole}
+use Rattle.answers.proofs.show.checked.Statement.{statement}
+use Rattle.answers.proofs.show.checked.Tie as tie
+use Rattle.answers.proofs.show.checked.Reads as reads
+use Rattle.answers.proofs.show.checked.Lts as lts
+use Rattle.answers.proofs.show.steps.Reads as steps-reads
 use Rattle.records.proofs.cluster_check.Reads as cluster-check-reads
 use Rattle.records.proofs.plan_check.Reads as plan-check-reads
 
@@ -22,7 +21,7 @@ enum-told-2 : tie.Need-enum-told-2
 enum-told-2 c = search needs
 
 steps-requires : tie.Need-steps-requires
-steps-requires c κs = search (needs, room-is-whole, plan-is-whole)
+steps-requires c κs = search (needs, cluster-whole, plan-is-whole)
 
 enum-told-3 : tie.Need-enum-told-3
 enum-told-3 c = search needs

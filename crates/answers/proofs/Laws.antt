@@ -1,13 +1,11 @@
 -- Laws on going through the steps of a whole plan record.
 use Prim.Native.Nat.{ℕ, _+_, _-_, _≤_, _<_}
 use mathlib.Core.List.{List}
-use mathlib.Core.Path.{_≡_, sym, _∙_}
+use mathlib.Core.Path.{_≡_}
 use lib.ListN.{length}
 use native.Mathlib.Omega.{arith}
-use Rattle.records.specs.Room.{clusterCheck}
 use Rattle.records.specs.Plan.{stepCount, stepEnd, planCheck}
 use Rattle.records.specs.Inner.{Steps}
-use Rattle.records.specs.declared.faults.ClusterCheck.{ClusterCheck}
 use Rattle.records.specs.declared.faults.PlanCheck.{PlanCheck}
 use Rattle.records.proofs.Laws.Steps.{steps-start, steps-next, step-within}
 
@@ -22,7 +20,3 @@ module _ (s : List ℕ) (at i n : ℕ) (w : Steps s at (n - i)) (z : i < n) wher
 
   pub walk-next : (end : ℕ) → end ≡ stepEnd s at → Steps s end (n - (i + 1))
   walk-next end q = let e : n - (i + 1) ≡ (n - i) - 1 = omega arith in rw (q, e) (steps-next s at (n - i) w (omega arith))
-
--- what a look at a cluster record found, once it is matched
-pub room-is-whole : (s : List ℕ) (found : ClusterCheck) → found ≡ clusterCheck s → found ≡ ClusterCheck.Whole → clusterCheck s ≡ ClusterCheck.Whole
-room-is-whole s found e q = sym e ∙ q

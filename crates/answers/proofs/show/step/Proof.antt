@@ -1,10 +1,10 @@
 use borrow.Author.Needs.{needs}
 use Prim.Native.Nat.{_-_}
-use Rattle.plan.proofs.show.step.Statement.{statement}
-use Rattle.plan.proofs.show.step.Tie as tie
-use Rattle.plan.proofs.show.step.Reads as reads
-use Rattle.plan.proofs.show.step.Lts as lts
-use Rattle.plan.proofs.show.line.Reads as line-reads
+use Rattle.answers.proofs.show.step.Statement.{statement}
+use Rattle.answers.proofs.show.step.Tie as tie
+use Rattle.answers.proofs.show.step.Reads as reads
+use Rattle.answers.proofs.show.step.Lts as lts
+use Rattle.answers.proofs.show.line.Reads as line-reads
 use Rattle.records.proofs.move_count.Reads as move-count-reads
 use Rattle.records.proofs.move_to.Reads as move-to-reads
 use Rattle.records.proofs.move_vm.Reads as move-vm-reads

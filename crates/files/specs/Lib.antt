@@ -1,0 +1,2 @@
+-- What the library's own functions answer.
+pub mod Number
