@@ -11,6 +11,11 @@
  * CPU that is passed. Check a plan at the reserve that it was built at; a plan that is accepted at one reserve
  * is accepted at the same cost at every smaller one.
  *
+ * Waiting. A `before` constraint (kind 5, in cluster records of either version) names a first VM and a second. A
+ * step with a move of the second, a launch, a shutdown or a move aside too, must start with the first on its
+ * target and must not move the first; else it is refused with 33. No target is refused for it. If VMs out of
+ * place wait for one another, `kobdrieft_build` is blocked.
+ *
  * Pointers. The caller guarantees that each pointer is not NULL and readable for its length, `out` also
  * writable; that `out` overlaps nothing of `cluster`; and that nobody else writes to what is lent, or reads
  * `out`, during the call. The two records lent to `kobdrieft_check` are only read and may overlap. A length of 0
@@ -18,8 +23,8 @@
  *
  * Threads. There is no state: any number of threads may call at once, each with an `out` of its own.
  *
- * Stack. Measured on full clusters, x86-64: `kobdrieft_check` takes 34,335 bytes (512 steps), `kobdrieft_build`
- * 122,287 (1 step) and 122,199 (500 steps): it does not grow with the steps. Give a thread KOB_CHECK_STACK or
+ * Stack. Measured on full clusters, x86-64: `kobdrieft_check` takes 34,575 bytes (512 steps), `kobdrieft_build`
+ * 122,559 (1 step) and 122,471 (500 steps): it does not grow with the steps. Give a thread KOB_CHECK_STACK or
  * KOB_BUILD_STACK, and what it needs itself.
  *
  * No call allocates, does I/O, or calls anything but memcpy, memmove, memset and memcmp.
@@ -31,12 +36,12 @@
 #include <stdint.h>
 
 /* Grows whenever this interface changes, or what its calls answer. */
-#define KOBDRIEFT_VERSION 6
+#define KOBDRIEFT_VERSION 7
 
 /* The two names as they are in the archive. They carry the version, so a program compiled with the header of
  * another version does not link. */
-#define kobdrieft_check kobdrieft_check_v6
-#define kobdrieft_build kobdrieft_build_v6
+#define kobdrieft_check kobdrieft_check_v7
+#define kobdrieft_build kobdrieft_build_v7
 
 #ifdef __cplusplus
 extern "C" {
@@ -95,13 +100,13 @@ static inline kob_outcome kob_outcome_of(uint64_t result)
     return (kob_outcome)(result >> 62);
 }
 
-/* A refusal's number, 1 to 19, 23 or 27; 0 if the result is no refusal. */
+/* A refusal's number, 1 to 19, 23, 27 or 33; 0 if the result is no refusal. */
 static inline unsigned kob_refusal_number(uint64_t result)
 {
     return kob_outcome_of(result) == KOB_REFUSED ? (unsigned)(result >> 16 & 0xff) : 0;
 }
 
-/* The step at fault, from 1, of the numbers 15 to 18 and 27; 0 of all others. */
+/* The step at fault, from 1, of the numbers 15 to 18, 27 and 33; 0 of all others. */
 static inline unsigned kob_refusal_step(uint64_t result)
 {
     return kob_outcome_of(result) == KOB_REFUSED ? (unsigned)(result & 0xffff) : 0;
@@ -148,6 +153,7 @@ typedef enum {
     KOB_FAULT_FORBIDDEN = 16,
     KOB_FAULT_MISFIT = 17,
     KOB_FAULT_MATE = 18,
+    KOB_FAULT_BEFORE = 33, /* of a cluster with a `before` constraint only; tested between 18 and 19 */
     KOB_FAULT_OFF_TARGET = 19
 } kob_fault;
 

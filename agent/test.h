@@ -47,6 +47,12 @@ void put_node(struct record *cluster, uint32_t memory, uint32_t cpu);
 /* Appends a VM's row. */
 void put_vm(struct record *cluster, uint32_t memory, uint32_t cpu, uint32_t current, uint32_t target);
 
+/* Puts these bytes, a constraint with its length, behind a whole cluster record. */
+void constrain(struct record *cluster, const uint8_t *constraint, size_t len);
+
+/* Lets the second VM wait for the first, in a whole cluster record. */
+void put_before(struct record *cluster, uint8_t first, uint8_t second);
+
 /* Begins a plan record of a version with so many steps; its length is not stated yet. */
 void put_plan(struct record *plan, uint32_t version, uint32_t steps);
 
@@ -55,6 +61,18 @@ void put_move(struct record *plan, uint32_t vm, uint32_t source, uint32_t destin
 
 /* States the whole length. */
 void finish(struct record *record);
+
+/* Makes a record of these bytes. */
+void set(struct record *record, const uint8_t *bytes, size_t len);
+
+/* What both calls give, and whether they leave the records as they were, and of a refusal the buffer. */
+struct answers {
+    uint64_t verdict, built;
+    int kept;
+};
+
+/* Asks both at a reserve; all is lent in allocations of just its size. */
+struct answers ask(uint64_t reserve, const struct record *cluster, const struct record *plan, size_t out_len);
 
 /* The next number of a fixed series. */
 uint32_t draw(void);
@@ -82,6 +100,9 @@ void full_plan(struct record *plan, uint32_t version);
 /* Most nodes and VMs, planned in CHAIN_STEPS steps of one move. */
 void chains(struct record *cluster);
 #define CHAIN_STEPS 500
+
+/* The same with most constraints: VMs 0 to 63 and 128 to 191 wait for VM 255, which is home and stays. */
+void waiting_chains(struct record *cluster);
 
 /* Reserves. Those above 90 are too high; with bits cut off some would not be. */
 #define RESERVES 10

@@ -16,7 +16,7 @@ work=$(mktemp -d)
 trap 'rm -rf "$work"' EXIT
 
 # The interface's version, and the two names that carry it.
-version=6
+version=7
 check=kobdrieft_check_v$version
 build=kobdrieft_build_v$version
 
@@ -296,7 +296,7 @@ lib_names() {
   edited $header '/^#define KOBDRIEFT_VERSION /d' "$line KOBDRIEFT_VERSION NUMBER once"
   edited $header '/^#define KOBDRIEFT_VERSION /p' "$line KOBDRIEFT_VERSION NUMBER once"
   edited $header 's/^\(#define KOBDRIEFT_VERSION\) .*/\1/' "$line KOBDRIEFT_VERSION NUMBER once"
-  edited $header 's/^\(#define KOBDRIEFT_VERSION\) .*/\1 six/' "$line KOBDRIEFT_VERSION NUMBER once"
+  edited $header 's/^\(#define KOBDRIEFT_VERSION\) .*/\1 seven/' "$line KOBDRIEFT_VERSION NUMBER once"
   edited $header 's/^#define KOBDRIEFT_VERSION .*/&0/' "$line kobdrieft_check ${check}0 once"
   edited $header 's/^\(#define kobdrieft_check\) .*/\1 kobdrieft_check_v1/' "$line kobdrieft_check $check once"
   edited $header 's/^#define kobdrieft_build .*/&0/' "$line kobdrieft_build $build once"
@@ -314,6 +314,7 @@ lib_texts() {
   edited $page '/^| 1 |/d' 'number 1 is missing'
   edited $page '/^| 7 |/d' 'number 7 is missing'
   edited $page '/^| 19 |/d' 'number 19 is missing'
+  edited $page '/^| 33 |/d' 'number 33 is missing'
   edited $page '/^| 7 |/p' 'number 7 is there twice'
   edited $page 's/^| 7 |/| 8 |/' 'number 8 is there twice'
   edited $page 's/^| 7 |/| 99 |/' 'number 99 is not in kob_fault'
@@ -321,6 +322,7 @@ lib_texts() {
   edited $page 's/^| 7 |/| 7 | more |/' 'is no row'
   edited $page 's/^| 7 |/| seven |/' 'is no row'
   edited $page 's/what it means/meaning/' 'number 23 is missing'
+  edited agent/kobdrieft.h '/KOB_FAULT_BEFORE/d' 'number 33 is not in kob_fault'
   edited agent/kobdrieft.h '/kobdrieft_texts/d' 'must have the line'
   edited agent/kobdrieft.h '/kobdrieft_texts/p' 'must have the line'
 }
@@ -368,6 +370,7 @@ builds() {
   program "$label" test_header test_header.c test_common.c test_pages.c -- "$@"
   program "$label" test_reader test_reader.c test_common.c test_pages.c -- "$@"
   program "$label" test_reserve test_reserve.c test_common.c -- "$@"
+  program "$label" test_before test_before.c test_common.c -- "$@"
   program "$label" test_names test_names.c test_common.c -- "$@"
   group "$label: built without a warning"
 }
@@ -643,7 +646,7 @@ agents() {
 wrong() {
   local i
   agent=$work/wrong
-  for i in 1 2 3 4 5 6 7 8 9 10 11 12; do
+  for i in 1 2 3 4 5 6 7 8 9 10 11 12 13 14; do
     expect "wrong library $i" "$cc" "${strict[@]}" "${sanitize[@]}" -DWRONG=$i "$here/agent.c" \
       "$here/test_wrong.c" -o "$agent"
     expect "disagreement $i" keeps 5 'planner and checker disagree' --keep-blocked "$work/a"
@@ -660,7 +663,7 @@ builds sanitized "${sanitize[@]}"
 more_builds
 cplusplus
 for label in plain sanitized; do
-  for name in test_names test_header test_reader test_reserve; do
+  for name in test_names test_header test_reader test_reserve test_before; do
     run "$label" "$work/$label/$name"
   done
 done

@@ -138,6 +138,26 @@ void finish(struct record *record)
     record->len = end;
 }
 
+void set(struct record *record, const uint8_t *bytes, size_t len)
+{
+    memcpy(record->bytes, bytes, len);
+    record->len = len;
+}
+
+void constrain(struct record *cluster, const uint8_t *constraint, size_t len)
+{
+    memcpy(cluster->bytes + cluster->len, constraint, len);
+    cluster->len += len;
+    cluster->bytes[10]++;
+    finish(cluster);
+}
+
+void put_before(struct record *cluster, uint8_t first, uint8_t second)
+{
+    const uint8_t before[] = {0, 3, 5, first, second};
+    constrain(cluster, before, sizeof before);
+}
+
 void put_plan(struct record *plan, uint32_t version, uint32_t steps)
 {
     plan->len = 0;
@@ -152,6 +172,24 @@ void put_move(struct record *plan, uint32_t vm, uint32_t source, uint32_t destin
     if (plan->bytes[0] != 1)
         put(plan, 1, source);
     put(plan, 1, destination);
+}
+
+/* ---- calls */
+
+struct answers ask(uint64_t reserve, const struct record *cluster, const struct record *plan, size_t out_len)
+{
+    struct answers answers;
+    uint8_t *c = copied(cluster->bytes, cluster->len);
+    uint8_t *p = copied(plan->bytes, plan->len);
+    uint8_t *out = filled(out_len);
+    answers.verdict = kobdrieft_check(reserve, c, cluster->len, p, plan->len);
+    answers.built = kobdrieft_build(reserve, c, cluster->len, out, out_len);
+    answers.kept = memcmp(c, cluster->bytes, cluster->len) == 0 && memcmp(p, plan->bytes, plan->len) == 0
+                   && (kob_outcome_of(answers.built) != KOB_REFUSED || all_are(out, out_len, FILL));
+    free(c);
+    free(p);
+    free(out);
+    return answers;
 }
 
 /* ---- damage */
@@ -264,4 +302,11 @@ void chains(struct record *cluster)
     for (int i = 0; i < 4; i++)
         put_vm(cluster, 1, 0, 63, 63);
     finish(cluster);
+}
+
+void waiting_chains(struct record *cluster)
+{
+    chains(cluster);
+    for (int i = 0; i < KOB_MAX_CONSTRAINTS; i++)
+        put_before(cluster, 255, (uint8_t)(i < 64 ? i : i + 64));
 }

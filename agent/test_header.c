@@ -23,6 +23,8 @@ static void test_unpackers(void)
     expect(kob_outcome_of(refusal) == KOB_REFUSED, "outcome of a refusal");
     expect(kob_refusal_number(refusal) == KOB_FAULT_MISFIT, "number of a refusal");
     expect(kob_refusal_step(refusal) == 512, "step of a refusal");
+    expect(kob_refusal_number(refused(33, 7)) == KOB_FAULT_BEFORE, "number of 33");
+    expect(kob_refusal_step(refused(33, 7)) == 7, "step of 33");
     expect(kob_steps(refusal) == 0 && kob_moves(refusal) == 0, "a refusal has no steps");
     expect(kob_cost(refusal) == 0, "a refusal has no cost");
     expect(kob_outcome_of(0) == KOB_PLAN && kob_cost(0) == 0 && kob_steps(0) == 0, "the empty plan");
@@ -40,24 +42,26 @@ static int is_line(const char *text)
 
 static void test_texts(void)
 {
-    for (unsigned number = 0; number <= KOB_FAULT_ELSEWHERE; number++) {
+    for (unsigned number = 0; number <= KOB_FAULT_BEFORE; number++) {
         const char *text = kob_fault_text(number);
         int differs = 1;
         for (unsigned other = 0; other < number; other++)
             differs = differs && strcmp(text, kob_fault_text(other)) != 0;
-        if (number <= KOB_FAULT_OFF_TARGET || number == KOB_FAULT_RESERVE || number == KOB_FAULT_ELSEWHERE)
+        if (number <= KOB_FAULT_OFF_TARGET || number == KOB_FAULT_RESERVE || number == KOB_FAULT_ELSEWHERE
+            || number == KOB_FAULT_BEFORE)
             expect(is_line(text) && differs, "a text for each number");
         else
-            expect(strcmp(text, "Unknown number.") == 0, "no text for another number between 19 and 27");
+            expect(strcmp(text, "Unknown number.") == 0, "no text for another number between 19 and 33");
     }
     expect(strstr(kob_fault_text(KOB_FAULT_CLUSTER_SHORT), "11 bytes") != NULL, "text 1");
     expect(strstr(kob_fault_text(KOB_FAULT_BUFFER_SHORT), "2,562") != NULL, "text 10");
     expect(strstr(kob_fault_text(KOB_FAULT_OFF_TARGET), "target") != NULL, "text 19");
     expect(strstr(kob_fault_text(KOB_FAULT_RESERVE), "reserve") != NULL, "text 23");
     expect(strstr(kob_fault_text(KOB_FAULT_ELSEWHERE), "source") != NULL, "text 27");
+    expect(strstr(kob_fault_text(KOB_FAULT_BEFORE), "waits") != NULL, "text 33");
     expect(strcmp(kob_fault_text(256), "Unknown number.") == 0, "text of 256");
     expect(strcmp(kob_fault_text(~0u), "Unknown number.") == 0, "text of the largest number");
-    expect(KOBDRIEFT_VERSION == 6, "the interface's version");
+    expect(KOBDRIEFT_VERSION == 7, "the interface's version");
     group("texts");
 }
 
@@ -419,6 +423,29 @@ static void test_cut(void)
         expect(check_stays(0, cluster, sizeof cluster, turnover_plan, len), "check of its plan, cut");
 }
 
+/* A where VM 1 waits for VM 0, cut at every length, and with each byte of the constraint changed to each value. */
+static void test_before(void)
+{
+    static struct record cluster;
+    int good = 1;
+    set(&cluster, cluster_a, sizeof cluster_a);
+    put_before(&cluster, 0, 1);
+    for (size_t len = sizeof cluster_a; len <= cluster.len; len++) {
+        expect(check_stays(0, cluster.bytes, len, plan_a, sizeof plan_a), "check with a VM that waits, cut");
+        expect(build_stays(0, cluster.bytes, len, KOB_BUILD_BUFFER), "build with a VM that waits, cut");
+    }
+    for (size_t i = sizeof cluster_a; i < cluster.len; i++) {
+        const uint8_t byte = cluster.bytes[i];
+        for (unsigned value = 0; value < 256; value++) {
+            cluster.bytes[i] = (uint8_t)value;
+            good = check_stays(0, cluster.bytes, cluster.len, plan_a, sizeof plan_a) && good;
+            good = build_stays(0, cluster.bytes, cluster.len, KOB_BUILD_BUFFER) && good;
+        }
+        cluster.bytes[i] = byte;
+    }
+    expect(good, "check and build with a byte of that constraint changed");
+}
+
 /* The same at reserves, too high ones among them. */
 static void test_cut_kept(void)
 {
@@ -503,6 +530,7 @@ static void test_pages(void)
     cluster_fence = fence(KOB_MAX_CLUSTER_BYTES + 1);
     plan_fence = fence(KOB_MAX_PLAN_BYTES);
     test_cut();
+    test_before();
     test_cut_kept();
     test_large();
     test_damaged();

@@ -1,25 +1,9 @@
 /* Tests of the reserve. */
-#include <stdlib.h>
 #include <string.h>
 
 #include "test.h"
 
 /* ---- 23 */
-
-static void set(struct record *record, const uint8_t *bytes, size_t len)
-{
-    memcpy(record->bytes, bytes, len);
-    record->len = len;
-}
-
-/* Gives a cluster its one constraint. */
-static void constrain(struct record *cluster, const uint8_t *constraint, size_t len)
-{
-    memcpy(cluster->bytes + cluster->len, constraint, len);
-    cluster->len += len;
-    cluster->bytes[10] = 1;
-    finish(cluster);
-}
 
 /* A cluster with this fault, 1 to 9; any other number gives A. */
 static void put_cluster_fault(struct record *cluster, unsigned number)
@@ -41,7 +25,7 @@ static void put_cluster_fault(struct record *cluster, unsigned number)
     }
 }
 
-/* A cluster and a plan with this fault, 11 to 19 or 27; any other number gives A and its plan. */
+/* A cluster and a plan with this fault, 11 to 19, 27 or 33; any other number gives A and its plan. */
 static void put_plan_fault(struct record *cluster, struct record *plan, unsigned number)
 {
     static const uint8_t ban[] = {0, 6, 1, 0, 1, 0, 1, 2}; /* VM 0 from node 2 */
@@ -64,33 +48,10 @@ static void put_plan_fault(struct record *cluster, struct record *plan, unsigned
         cluster->bytes[13] = cluster->bytes[18] = 5; /* the memory of nodes 0 and 1 */
         set(plan, beside, sizeof beside);
         break;
+    case KOB_FAULT_BEFORE: put_before(cluster, 1, 0); break; /* VM 0 waits for VM 1 */
     case KOB_FAULT_OFF_TARGET: set(plan, no_steps, sizeof no_steps); break;
     default: break;
     }
-}
-
-/* What both calls give, and whether they leave the records as they were, and of a refusal the buffer. */
-struct answers {
-    uint64_t verdict, built;
-    int kept;
-};
-
-/* Asks both at a reserve; all is lent in allocations of just its size. */
-static struct answers ask(uint64_t reserve, const struct record *cluster, const struct record *plan,
-                          size_t out_len)
-{
-    struct answers answers;
-    uint8_t *c = copied(cluster->bytes, cluster->len);
-    uint8_t *p = copied(plan->bytes, plan->len);
-    uint8_t *out = filled(out_len);
-    answers.verdict = kobdrieft_check(reserve, c, cluster->len, p, plan->len);
-    answers.built = kobdrieft_build(reserve, c, cluster->len, out, out_len);
-    answers.kept = memcmp(c, cluster->bytes, cluster->len) == 0 && memcmp(p, plan->bytes, plan->len) == 0
-                   && (kob_outcome_of(answers.built) != KOB_REFUSED || all_are(out, out_len, FILL));
-    free(c);
-    free(p);
-    free(out);
-    return answers;
 }
 
 /* Whether both calls give these records 23, at every reserve that is too high. */
@@ -139,6 +100,8 @@ static void test_23_first(void)
     }
     put_plan_fault(&cluster, &plan, KOB_FAULT_ELSEWHERE);
     expect(then_23(&cluster, &plan, KOB_BUILD_BUFFER, KOB_FAULT_ELSEWHERE, 0), "23 before 27");
+    put_plan_fault(&cluster, &plan, KOB_FAULT_BEFORE);
+    expect(then_23(&cluster, &plan, KOB_BUILD_BUFFER, KOB_FAULT_BEFORE, 0), "23 before 33");
 }
 
 static void test_23_empty(void)

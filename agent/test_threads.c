@@ -13,7 +13,7 @@
 #define THREADS 8
 #define ROUNDS 20
 
-static struct record room, plan, long_room;
+static struct record room, plan, long_room, waiting_room;
 static uint64_t long_result;
 
 /* ---- stack */
@@ -40,6 +40,19 @@ static uint64_t build_long(void)
 {
     static uint8_t out[KOB_BUILD_BUFFER];
     return kob_build(0, long_room.bytes, long_room.len, out, sizeof out);
+}
+
+/* The same with VMs that wait, and the check of what was built. */
+static uint8_t waiting_plan[KOB_BUILD_BUFFER];
+
+static uint64_t build_waiting(void)
+{
+    return kob_build(0, waiting_room.bytes, waiting_room.len, waiting_plan, sizeof waiting_plan);
+}
+
+static uint64_t check_waiting(void)
+{
+    return kob_check(0, waiting_room.bytes, waiting_room.len, waiting_plan, kob_plan_length(waiting_plan));
 }
 
 static void *begin(void *argument)
@@ -103,6 +116,16 @@ static void test_stack(void)
     group("stack");
 }
 
+static void test_stack_waiting(void)
+{
+    struct call built = {build_waiting, 0, NULL};
+    struct call checked = {check_waiting, 0, NULL};
+    expect(stack_use(&built) < KOB_BUILD_STACK, "build keeps to its stack with VMs that wait");
+    expect(stack_use(&checked) < KOB_CHECK_STACK, "check keeps to its stack with VMs that wait");
+    expect(built.result == long_result && checked.result == kob_cost(long_result), "the waiting chains are planned");
+    group("stack, VMs that wait");
+}
+
 /* ---- threads */
 
 struct worker {
@@ -162,10 +185,12 @@ int main(void)
     full_room(&room);
     full_plan(&plan, 2);
     chains(&long_room);
+    waiting_chains(&waiting_room);
     long_result = build_long();
     expect(kob_outcome_of(long_result) == KOB_PLAN, "the chains are planned");
     expect(kob_steps(long_result) == CHAIN_STEPS, "the chains' steps");
     test_stack();
+    test_stack_waiting();
     test_threads();
     return status();
 }

@@ -25,6 +25,12 @@
 #elif WRONG == 12 /* a reserve that only the planner refuses */
 #define BUILT ((uint64_t)2 << 62 | 23 << 16)
 #define CHECKED ((uint64_t)2 << 62 | 19 << 16)
+#elif WRONG == 13 /* blocked, refused for a VM that waits */
+#define BUILT ((uint64_t)1 << 62)
+#define CHECKED ((uint64_t)2 << 62 | 33 << 16 | 1)
+#elif WRONG == 14 /* both refuse a step, which is for the checker alone */
+#define BUILT ((uint64_t)2 << 62 | 33 << 16 | 1)
+#define CHECKED BUILT
 #elif WRONG == 10 /* no record at all, of a plan of no steps */
 #define BUILT ((uint64_t)0)
 #define CHECKED BUILT

@@ -86,6 +86,10 @@ expect 'no record to plan' 2 'refused 1 step 0' 'kobdrieft: The cluster record h
 expect 'accepted' 0 'accepted cost 16' '' "$driver" check 'cluster A' 'plan A'
 expect 'accepted in version 1' 0 'accepted cost 16' '' "$driver" check 'cluster A' plain
 expect 'another source' 2 'refused 27 step 3' 'kobdrieft: A move names a source that is not the place of its VM when the step starts.' "$driver" check 'cluster A' stale
+expect 'too early' 2 'refused 33 step 1' 'kobdrieft: A step moves a VM before the one that it waits for is on its target, or in one step with it.' "$driver" check "$root/examples/before-both.cluster" "$root/examples/before-both.plan"
+expect 'a step later' 0 'accepted cost 8' '' "$driver" check "$root/examples/before.cluster" "$root/examples/before.plan"
+expect 'planned a step later' 0 $'plan steps 2 moves 2 cost 8\n1 0 0 1\n2 1 0 2' '' "$driver" plan "$root/examples/before.cluster"
+expect 'each waits for the other' 1 'blocked steps 0 moves 0 cost 0' '' "$driver" plan "$root/examples/before-mutual.cluster"
 expect 'off target' 2 'refused 19 step 0' 'kobdrieft: Every step is sound, but after the last some VM is off its target.' "$driver" check 'cluster A' none
 expect 'off target in version 1' 2 'refused 19 step 0' 'kobdrieft: Every step is sound*' "$driver" check 'cluster A' plain-none
 expect 'does not fit' 2 'refused 17 step 1' 'kobdrieft: In some order*' "$driver" check 'cluster A' both

@@ -1,5 +1,5 @@
-//! Links the library under test, libkobdrieft.a, which exports `kobdrieft_check_v6` and
-//! `kobdrieft_build_v6`.
+//! Links the library under test, libkobdrieft.a, which exports `kobdrieft_check_v7` and
+//! `kobdrieft_build_v7`.
 //!
 //! KOBDRIEFT_LIB_DIR is the directory it is in.
 

@@ -1,6 +1,7 @@
 //! Inputs set by hand on both sides of every limit, each with the outcome that document 01, as
 //! amended, gives it.
 
+mod befores;
 mod reserves;
 
 use crate::planner::BUFFER;
@@ -83,6 +84,11 @@ fn fence(vms: &[usize], nodes: &[usize]) -> Constraint {
 
 fn spread(vms: &[usize]) -> Constraint {
     Constraint::Spread { vms: vms.to_vec() }
+}
+
+/// VM `second` waits for VM `first`.
+pub fn before(first: usize, second: usize) -> Constraint {
+    Constraint::Before { first, second }
 }
 
 fn latency(vms: &[usize], groups: &[&[usize]]) -> Constraint {
@@ -222,9 +228,16 @@ pub fn edges() -> Vec<Edge> {
     ends_on_no_node(&mut edges);
     launches_and_shutdowns_planned(&mut edges);
     idle_planned(&mut edges);
+    befores::shapes(&mut edges);
+    befores::targets(&mut edges);
+    befores::steps(&mut edges);
+    befores::on_no_node(&mut edges);
+    befores::among_other_faults(&mut edges);
+    befores::planned(&mut edges);
     reserves::usable(&mut edges);
     reserves::over(&mut edges);
     reserves::planned(&mut edges);
+    reserves::befores(&mut edges);
     reserves::too_high(&mut edges);
     edges.0
 }
@@ -427,7 +440,7 @@ fn rows_on_no_node(e: &mut Edges) {
 
 fn constraint_shapes(e: &mut Edges) {
     e.bodies(
-        "empty lists of every kind",
+        "empty lists of each kind that has lists",
         &[&[1, 0, 0, 0], &[2, 0, 0, 0], &[3, 0, 0], &[4, 0, 0, 0]],
         0,
     );
@@ -437,7 +450,7 @@ fn constraint_shapes(e: &mut Edges) {
         e.bodies("a kind and nothing else", &[&[kind]], 7);
         e.bodies("half a VM count", &[&[kind, 0]], 7);
     }
-    for kind in [0, 5, 6, 255] {
+    for kind in [0, 6, 7, 255] {
         e.bodies("unknown kind", &[&[kind, 0, 0, 0]], 7);
         e.bodies("unknown kind alone", &[&[kind]], 7);
     }
@@ -652,6 +665,7 @@ fn targets_on_no_node(e: &mut Edges) {
         fence(&[0, 1, 2], &[0]),
         spread(&[0, 2]),
         latency(&[0, 1, 2], &[&[0]]),
+        before(2, 0),
     ];
     no_steps(e, "every kind kept, one shut down", &launched(&kept), 19);
 }
@@ -715,7 +729,8 @@ fn plans_of_no_steps(e: &mut Edges) {
         };
         add("both 255, version 2", changed(&good, stays), whole);
         add("a constraint of length 0", cluster_bytes_with(&room, &[vec![]]), 7);
-        add("unknown kind", cluster_bytes_with(&room, &[vec![5, 0, 0]]), 7);
+        add("unknown kind", cluster_bytes_with(&room, &[vec![6, 0, 1]]), 7);
+        add("one that waits for itself", cluster_bytes_with(&room, &[vec![5, 1, 1]]), 7);
         let twice = vec![4, 0, 0, 2, 1, 0, 1, 0];
         add("a node in two groups", cluster_bytes_with(&room, &[twice]), 7);
         let mut full = room.clone();
@@ -745,6 +760,7 @@ fn whole_clusters_without_steps(e: &mut Edges) {
         fence(&[0, 1], &[0, 1]),
         spread(&[0, 1]),
         latency(&[0, 1], &[&[0, 1]]),
+        before(0, 1),
     ];
     add("every kind kept", &room(&at_home().nodes, &at_home().vms, &kept), 0);
     add("a full node", &room(&[node(3, 2)], &[vm(1, 1, 0, 0), vm(2, 1, 0, 0)], &[]), 0);

@@ -256,15 +256,38 @@ fn constraints(rng: &mut Rng, room: &Room, size: Size) -> Vec<Constraint> {
         2 => rng.range(1, 4),
         _ => rng.range(0, many),
     };
-    let one_kind = if rng.chance(30) { Some(rng.below(4)) } else { None };
+    let one_kind = if rng.chance(30) { Some(rng.below(5)) } else { None };
+    let queue = queue(rng, room);
     (0..how_many)
-        .map(|_| match one_kind.unwrap_or_else(|| rng.below(4)) {
+        .map(|_| match one_kind.unwrap_or_else(|| rng.below(5)) {
             0 => ban(rng, room),
             1 => fence(rng, room),
             2 => spread(rng, room),
-            _ => latency(rng, room),
+            3 => latency(rng, room),
+            _ => before(rng, &queue),
         })
         .collect()
+}
+
+/// All VMs in some order, for those behind to wait for those ahead.
+pub(crate) fn queue(rng: &mut Rng, room: &Room) -> Vec<usize> {
+    let mut vms: Vec<usize> = (0..room.vms.len()).collect();
+    rng.shuffle(&mut vms);
+    vms
+}
+
+/// One of a queue waits for another, most often for one ahead, so that few bind each other. With nobody
+/// to wait for it is a spread of nobody.
+pub(crate) fn before(rng: &mut Rng, queue: &[usize]) -> Constraint {
+    let Some(last) = queue.len().checked_sub(1).filter(|&last| last > 0) else {
+        return Constraint::Spread { vms: vec![] };
+    };
+    let ahead = rng.below(last);
+    let (first, second) = (queue[ahead], queue[rng.range(ahead + 1, last)]);
+    match rng.chance(10) {
+        true => Constraint::Before { first: second, second: first },
+        false => Constraint::Before { first, second },
+    }
 }
 
 pub(crate) fn some_vms(rng: &mut Rng, room: &Room) -> Vec<usize> {
@@ -439,6 +462,36 @@ pub fn apart(rng: &mut Rng, size: Size) -> Room {
         room.constraints.push(ban(rng, &room));
         room.constraints.push(fence(rng, &room));
     }
+    room.constraints.truncate(128);
+    room
+}
+
+/// Rooms in which VMs wait for others, and mostly for nothing else: in a row, many for one, one for many,
+/// each for its partner, or as it is drawn. Mostly it is those out of place that wait and are waited for.
+pub fn waiting(rng: &mut Rng, size: Size) -> Room {
+    let mut room = room(rng, size);
+    if rng.chance(75) {
+        room.nodes.fill(Node { memory: MOST_MEMORY, cpu: MOST_CPU });
+    }
+    if rng.chance(60) {
+        room.constraints.clear();
+    }
+    let mut queue = queue(rng, &room);
+    let away = Placement::current(&room).out_of_place(&room);
+    if away.len() > 1 && rng.chance(75) {
+        queue.retain(|vm| away.contains(vm));
+    }
+    queue.truncate(rng.pick(&[2, 3, 4, 6, 64]));
+    let pair = |first: usize, second: usize| Constraint::Before { first, second };
+    let Some((&one, others)) = queue.split_first() else { return room };
+    room.constraints.extend(match rng.below(8) {
+        0 | 1 => queue.windows(2).map(|two| pair(two[0], two[1])).collect(),
+        2 => others.iter().map(|&other| pair(one, other)).collect(),
+        3 => others.iter().map(|&other| pair(other, one)).collect(),
+        4 => queue.chunks_exact(2).flat_map(|p| [pair(p[0], p[1]), pair(p[1], p[0])]).collect(),
+        _ => (0..rng.range(1, 6)).map(|_| before(rng, &queue)).collect::<Vec<Constraint>>(),
+    });
+    rng.shuffle(&mut room.constraints);
     room.constraints.truncate(128);
     room
 }
@@ -707,11 +760,12 @@ fn random_sound_step(
     step
 }
 
-/// Random sound steps, then the planner's way home from there.
+/// At times some of the planner's steps, then random sound ones, then the planner's way home from there.
 fn detour(rng: &mut Rng, room: &Room) -> Vec<Step> {
     let book = Book::of(room);
-    let mut here = Placement::current(room);
-    let mut steps = Vec::new();
+    let mut steps = if rng.chance(30) { make_steps(room).0 } else { vec![] };
+    steps.truncate(rng.below(steps.len() + 1));
+    let mut here = steps.iter().fold(Placement::current(room), |here, step| here.after(room, step));
     for _ in 0..rng.range(1, 5) {
         let percent = rng.pick(&[20, 50, 100]);
         let step = random_sound_step(rng, room, &book, &here, percent);
@@ -740,9 +794,12 @@ fn blind_step(rng: &mut Rng, room: &Room) -> Step {
     vms.into_iter().map(|vm| Move::bare(vm, away(rng, vm))).collect()
 }
 
-/// Changes a plan in one place. Steps left empty go, as they would only be fault 14.
+/// Changes a plan in one place; if VMs wait for others, often in that. Steps left empty go, as they would
+/// only be fault 14.
 pub fn spoil(rng: &mut Rng, room: &Room, steps: &mut Vec<Step>) {
-    match rng.below(34) {
+    let waits = room.befores().next().is_some();
+    match rng.below(35) {
+        _ if waits && rng.chance(60) => too_soon(rng, room, steps),
         0 | 1 => swap_moves(rng, steps),
         2..=4 => merge_steps(rng, steps),
         5 | 6 => split_step(rng, steps),
@@ -758,7 +815,7 @@ pub fn spoil(rng: &mut Rng, room: &Room, steps: &mut Vec<Step>) {
         15 => on_a_move(rng, steps, |rng, m| m.to = rng.pick(&[room.nodes.len(), 64, 254])),
         16 => on_a_move(rng, steps, |_, m| m.to = room.vms.get(m.vm).map_or(0, |vm| vm.current)),
         17 | 18 => to_a_closed_node(rng, room, steps),
-        19..=21 | 32 => to_a_mate(rng, room, steps),
+        19..=21 | 32 | 33 => to_a_mate(rng, room, steps),
         22 => crowd(rng, room, steps),
         23 => on_a_move(rng, steps, |_, m| m.to = NOWHERE),
         24 | 25 => shut_down(rng, room, steps),
@@ -883,6 +940,45 @@ fn hurry(rng: &mut Rng, room: &Room, steps: &mut [Step]) {
     launch.into_iter().for_each(|m| insert(&mut steps[first], m));
 }
 
+/// Moves a VM that waits for another too soon: before the first is home, in the step that brings it home,
+/// or in one that sends it away. The room must have one that waits; most often it is one that moves.
+fn too_soon(rng: &mut Rng, room: &Room, steps: &mut Vec<Step>) {
+    let step_of =
+        |steps: &[Step], vm: usize| steps.iter().position(|step| step.iter().any(|m| m.vm == vm));
+    let (mut moved, all): (Vec<_>, Vec<_>) =
+        room.befores().partition(|&(_, second)| step_of(steps, second).is_some());
+    if moved.is_empty() || rng.chance(30) {
+        moved.extend(all);
+    }
+    let (first, second) = rng.pick(&moved);
+    if let Some(at) = step_of(steps, second).filter(|_| rng.chance(35)) {
+        let away = Move::bare(first, rng.below(room.nodes.len()));
+        return insert_anew(&mut steps[at], away);
+    }
+    let home = Move::bare(second, room.vms[second].target);
+    let aside = Move::bare(second, some_place(rng, room, second));
+    let drawn = rng.pick(&[home, aside]);
+    let taken = step_of(steps, second).map(|at| take_move(&mut steps[at], second));
+    let m = taken.filter(|_| rng.chance(80)).unwrap_or(drawn);
+    match step_of(steps, first) {
+        Some(at) if rng.chance(50) => insert_anew(&mut steps[at], m),
+        _ if !steps.is_empty() && rng.chance(50) => insert_anew(&mut steps[0], m),
+        _ => steps.insert(0, vec![m]),
+    }
+}
+
+/// Takes the move of a VM out of a step that has one.
+fn take_move(step: &mut Step, vm: usize) -> Move {
+    let at = step.iter().position(|m| m.vm == vm);
+    step.remove(at.expect("a step that moves it"))
+}
+
+/// Puts a move into a step, in place of its VM's own if there is one.
+fn insert_anew(step: &mut Step, m: Move) {
+    step.retain(|other| other.vm != m.vm);
+    insert(step, m);
+}
+
 /// Sends some VMs to a node that is over its CPU at first: an idle one, an active one, or both, before
 /// the first step or in it.
 fn onto_a_busy_node(rng: &mut Rng, room: &Room, steps: &mut Vec<Step>) {
@@ -951,7 +1047,7 @@ fn down_first(room: &Room, vms: &mut [usize]) {
 fn to_a_mate(rng: &mut Rng, room: &Room, steps: &mut Vec<Step>) {
     let mut vms: Vec<usize> = (0..room.vms.len()).collect();
     rng.shuffle(&mut vms);
-    if rng.chance(30) {
+    if rng.chance(40) {
         down_first(room, &mut vms);
     }
     for vm in vms {
@@ -1068,7 +1164,7 @@ pub fn damage_bodies(rng: &mut Rng, room: &Room, bodies: &mut Vec<Vec<u8>>) {
     let at = rng.below(body.len());
     match rng.below(8) {
         0 => body.clear(),
-        1 => body[0] = rng.pick(&[0, 5, 255]),
+        1 => body[0] = rng.pick(&[0, 5, 6, 255]),
         2 => body.push(rng.pick(&[0, 255])),
         3 => cut(body),
         4 => body[at] = body[at].wrapping_add(1),
@@ -1085,10 +1181,17 @@ fn bad_body(rng: &mut Rng, room: &Room) -> Vec<u8> {
     let n = room.nodes.len() as u8;
     let v = room.vms.len().min(255) as u8;
     let node = rng.below(room.nodes.len()) as u8;
-    let choices: [Vec<u8>; 18] = [
+    let choices: [Vec<u8>; 25] = [
         vec![],
         vec![0, 0, 0],
-        vec![5, 0, 0],
+        vec![6, 0, 0],
+        vec![5],
+        vec![5, 0],
+        vec![5, v / 2, v / 2],
+        vec![5, v, 0],
+        vec![5, 0, v],
+        vec![5, 0, 1, 0],
+        vec![5, 0, 2, 0, 1],
         vec![3],
         vec![3, 0, 0, 0],
         vec![3, 0, 1, v],
@@ -1247,7 +1350,7 @@ pub fn case(rng: &mut Rng) -> Case {
 /// An input of a given size. Damage may come on several layers at once, so that the order of
 /// the tests shows.
 pub fn sized_case(rng: &mut Rng, size: Size) -> Case {
-    let mut room = match rng.below(100) {
+    let mut room = match rng.below(110) {
         0..=2 => {
             let n = rng.range(3, 12);
             ring(rng, n)
@@ -1265,6 +1368,7 @@ pub fn sized_case(rng: &mut Rng, size: Size) -> Case {
         }
         59 => idle_pivots(rng),
         60..=75 => busy(rng, size),
+        76..=94 => waiting(rng, size),
         _ => room(rng, size),
     };
     let (plan, origin) = plan_case(rng, &room);

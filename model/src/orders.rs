@@ -1,7 +1,7 @@
 //! What a step means, by brute force: every order of begins and ends is gone through, and each
-//! begin is tested as it happens. Sums and mates are worked out here afresh from the rows and the
-//! spread lists; nothing of the closed forms in `rules` is used. At a reserve the room is to be given
-//! with its usable amounts.
+//! begin is tested as it happens. Sums, mates and who waits for whom are worked out here afresh from the
+//! rows and the constraints; nothing of the closed forms in `rules` is used. At a reserve the room is to
+//! be given with its usable amounts.
 
 use crate::records::{on_a_node, Constraint, Move, Node, Room};
 use std::collections::HashSet;
@@ -28,6 +28,17 @@ pub struct Found {
     pub misfit: bool,
     /// In some order a begin meets a spread mate (18).
     pub mate: bool,
+    /// In some order a VM begins that waits for another (33).
+    pub soon: bool,
+}
+
+impl Found {
+    /// Adds what goes wrong at another begin.
+    pub fn add(&mut self, other: Found) {
+        self.misfit |= other.misfit;
+        self.mate |= other.mate;
+        self.soon |= other.soon;
+    }
 }
 
 /// A step under way: the room, where VMs were when it started, and its moves. The step must have
@@ -79,18 +90,25 @@ impl Run<'_> {
         memory <= most_memory && (self.room.vms[vm].cpu == 0 || cpu <= most_cpu)
     }
 
+    /// Whether those who wait for a VM may not begin in this step: it is off its target when the step
+    /// starts, or the step moves it.
+    fn detains(&self, vm: usize) -> bool {
+        let at_home = self.start[vm] == self.room.vms[vm].target;
+        let stays = self.step.iter().all(|m| m.vm != vm);
+        !(at_home && stays)
+    }
+
     /// Tests the begin of a waiting move as things stand: whether the VM then fits its destination,
-    /// and the mates that count there. A shutdown may always begin.
+    /// the mates that count there, and those it waits for. Of a shutdown only these are asked.
     pub fn test_begin(&self, phases: &[Phase], i: usize) -> Found {
         let Move { vm, to, .. } = self.step[i];
-        if !on_a_node(to) {
-            return Found::default();
-        }
         let begun = with(phases, i, Phase::Running);
+        let mut vms = 0..self.room.vms.len();
         Found {
-            misfit: !self.fits(&begun, vm, to),
-            mate: (0..self.room.vms.len())
-                .any(|o| are_mates(self.room, vm, o) && self.counts_on(phases, o, to)),
+            misfit: on_a_node(to) && !self.fits(&begun, vm, to),
+            mate: on_a_node(to)
+                && vms.any(|o| are_mates(self.room, vm, o) && self.counts_on(phases, o, to)),
+            soon: self.room.befores().any(|(first, second)| second == vm && self.detains(first)),
         }
     }
 }
@@ -137,9 +155,7 @@ pub fn explore(room: &Room, start: &[usize], step: &[Move]) -> Found {
     every_state(step.len(), |phases| {
         for i in 0..step.len() {
             if phases[i] == Phase::Waiting {
-                let test = run.test_begin(phases, i);
-                found.misfit |= test.misfit;
-                found.mate |= test.mate;
+                found.add(run.test_begin(phases, i));
             }
         }
     });
@@ -181,9 +197,7 @@ pub fn follow(room: &Room, start: &[usize], step: &[Move], order: &[Event]) -> F
     for event in order {
         match *event {
             Event::Begin(i) => {
-                let test = run.test_begin(&phases, i);
-                found.misfit |= test.misfit;
-                found.mate |= test.mate;
+                found.add(run.test_begin(&phases, i));
                 phases[i] = Phase::Running;
             }
             Event::End(i) => phases[i] = Phase::Ended,

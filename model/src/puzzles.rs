@@ -81,12 +81,16 @@ fn size_nodes(rng: &mut Rng, room: &mut Room) {
 
 /// A constraint that the target keeps. Most concern what a pivot may do.
 fn constraint(rng: &mut Rng, room: &Room, spares: usize) -> Constraint {
-    match rng.below(8) {
+    match rng.below(10) {
         0 => gen::fence(rng, room),
         1 => gen::ban(rng, room),
         2 | 3 => spares_closed(rng, room, spares),
         4 => exchange_apart(rng, room),
         5 => gen::latency(rng, room),
+        6 | 7 => {
+            let queue = gen::queue(rng, room);
+            gen::before(rng, &queue)
+        }
         _ => gen::spread_among(rng, room, (0..room.vms.len()).collect()),
     }
 }

@@ -32,13 +32,14 @@ impl Vm {
     }
 }
 
-/// The four kinds of constraint.
+/// The five kinds of constraint. In the last the second VM waits for the first.
 #[derive(Clone, Debug, PartialEq, Eq)]
 pub enum Constraint {
     Ban { vms: Vec<usize>, nodes: Vec<usize> },
     Fence { vms: Vec<usize>, nodes: Vec<usize> },
     Spread { vms: Vec<usize> },
     Latency { vms: Vec<usize>, groups: Vec<Vec<usize>> },
+    Before { first: usize, second: usize },
 }
 
 /// A cluster record, read. In version 1 every VM is on a node and goes to one.
@@ -54,6 +55,14 @@ impl Room {
     /// Whether some VM is on no node, or should end there.
     pub fn has_nowhere(&self) -> bool {
         self.vms.iter().any(|vm| !on_a_node(vm.current) || !on_a_node(vm.target))
+    }
+
+    /// First and second of each constraint that has a VM wait for another.
+    pub fn befores(&self) -> impl Iterator<Item = (usize, usize)> + '_ {
+        self.constraints.iter().filter_map(|constraint| match *constraint {
+            Constraint::Before { first, second } => Some((first, second)),
+            _ => None,
+        })
     }
 }
 
@@ -207,6 +216,7 @@ fn read_constraint(body: &[u8], v: usize, n: usize) -> Option<Constraint> {
         2 => Constraint::Fence { vms: vm_list(&mut rest, v)?, nodes: node_list(&mut rest, n)? },
         3 => Constraint::Spread { vms: vm_list(&mut rest, v)? },
         4 => Constraint::Latency { vms: vm_list(&mut rest, v)?, groups: groups(&mut rest, n)? },
+        5 => two_vms(&mut rest, v)?,
         _ => return None,
     };
     rest.is_empty().then_some(constraint)
@@ -261,6 +271,13 @@ fn groups(rest: &mut &[u8], n: usize) -> Option<Vec<Vec<usize>>> {
         groups.push(group);
     }
     Some(groups)
+}
+
+/// First and second, which are there and differ.
+fn two_vms(rest: &mut &[u8], v: usize) -> Option<Constraint> {
+    let pair = take(rest, 2)?;
+    let (first, second) = (usize::from(pair[0]), usize::from(pair[1]));
+    (first < v && second < v && first != second).then_some(Constraint::Before { first, second })
 }
 
 /// Reads a plan record; the error is the refusal number, 11 to 14. 0 bytes are a plan of no
@@ -380,6 +397,7 @@ pub fn constraint_body(constraint: &Constraint) -> Vec<u8> {
             groups.iter().for_each(|group| body.extend(node_bytes(group)));
             body
         }
+        Constraint::Before { first, second } => vec![5, *first as u8, *second as u8],
     }
 }
 

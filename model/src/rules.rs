@@ -122,11 +122,13 @@ pub fn takes(room: &Room, node: usize, sum: Sum, vm: &Vm) -> bool {
 
 // ---------------------------------------------------------------- constraints
 
-/// What ban, fence and spread say, looked up once: the nodes each VM may go to, and its mates.
+/// What the constraints ask of steps, looked up once: the nodes each VM may go to, its mates, and the
+/// VMs it waits for.
 #[derive(Clone, Debug)]
 pub struct Book {
     pub may_go: Vec<Vec<bool>>,
     pub mates: Vec<Vec<usize>>,
+    pub firsts: Vec<Vec<usize>>,
 }
 
 impl Book {
@@ -138,7 +140,8 @@ impl Book {
                 .clone()
                 .map(|vm| nodes.clone().map(|node| may_go(room, vm, node)).collect())
                 .collect(),
-            mates: vms.map(|vm| mates(room, vm)).collect(),
+            mates: vms.clone().map(|vm| mates(room, vm)).collect(),
+            firsts: vms.map(|vm| firsts(room, vm)).collect(),
         }
     }
 
@@ -178,8 +181,17 @@ pub fn mates(room: &Room, vm: usize) -> Vec<usize> {
     (0..room.vms.len()).filter(|&other| other != vm && is_mate[other]).collect()
 }
 
+/// The VMs that this one waits for, by number.
+pub fn firsts(room: &Room, vm: usize) -> Vec<usize> {
+    let its = room.befores().filter(|(_, second)| *second == vm);
+    let mut firsts: Vec<usize> = its.map(|(first, _)| first).collect();
+    firsts.sort();
+    firsts.dedup();
+    firsts
+}
+
 /// Whether the targets keep one constraint. All listed VMs that end on a node count, moved or not;
-/// those that end on none keep every constraint.
+/// those that end on none keep every constraint. That one waits for another asks nothing of a target.
 fn target_keeps(room: &Room, constraint: &Constraint) -> bool {
     let target = |vm: &usize| room.vms[*vm].target;
     let on_nodes = |vms: &[usize]| -> Vec<usize> {
@@ -201,6 +213,7 @@ fn target_keeps(room: &Room, constraint: &Constraint) -> bool {
             vms.is_empty()
                 || groups.iter().any(|group| vms.iter().all(|vm| group.contains(&target(vm))))
         }
+        Constraint::Before { .. } => true,
     }
 }
 
@@ -240,6 +253,7 @@ pub fn step_fault(room: &Room, book: &Book, start: &Placement, step: &[Move]) ->
         _ if !step.iter().all(|m| book.lets(m)) => Some(16),
         _ if misfits(room, start, step) => Some(17),
         _ if meets_mate(book, start, step) => Some(18),
+        _ if moves_too_soon(room, book, start, step) => Some(33),
         _ => None,
     }
 }
@@ -258,7 +272,7 @@ pub fn misplaced(start: &Placement, step: &[Move]) -> bool {
     step.iter().any(|m| m.from.is_some_and(|from| from != start.place[m.vm]))
 }
 
-/// The moves of a step that go to a node. The begin of a shutdown is never tested.
+/// The moves of a step that go to a node. A shutdown needs no room, and meets nobody.
 fn arrivals(step: &[Move]) -> impl Iterator<Item = &Move> {
     step.iter().filter(|m| on_a_node(m.to))
 }
@@ -280,6 +294,16 @@ pub fn meets_mate(book: &Book, start: &Placement, step: &[Move]) -> bool {
     arrivals(step).any(|m| {
         book.mates[m.vm].iter().any(|&mate| {
             start.place[mate] == m.to || step.iter().any(|o| o.vm == mate && o.to == m.to)
+        })
+    })
+}
+
+/// Fault 33: a move, launch or shutdown of a VM that waits for another which is off its target at the
+/// start, or moves in the same step, whether it comes home by that or leaves.
+pub fn moves_too_soon(room: &Room, book: &Book, start: &Placement, step: &[Move]) -> bool {
+    step.iter().any(|m| {
+        book.firsts[m.vm].iter().any(|&first| {
+            start.place[first] != room.vms[first].target || step.iter().any(|o| o.vm == first)
         })
     })
 }
@@ -322,8 +346,8 @@ pub fn plan_cost(room: &Room, steps: &[Step]) -> u64 {
 // ---------------------------------------------------------------- the checker
 
 /// Checks a plan for a cluster at a reserve: 23, 1 to 9, then 11 to 14 over the whole plan, then each
-/// step in turn by 15, 27, 16, 17 and 18, then 19. A plan of 0 bytes has no steps: 23, 1 to 9, then
-/// 19.
+/// step in turn by 15, 27, 16, 17, 18 and 33, then 19. A plan of 0 bytes has no steps: 23, 1 to 9,
+/// then 19.
 pub fn check(reserve: u64, cluster: &[u8], plan: &[u8]) -> Verdict {
     let room = match accepted_cluster(reserve, cluster) {
         Ok(room) => room,

@@ -1,6 +1,9 @@
 //! The generators reach every refusal and every answer, and the hand-set cases come out as
 //! document 01, as amended, says.
 
+mod common;
+
+use common::{is_given, number_of, NUMBERS};
 use kobdrieft_model::edges::{edges, Edge};
 use kobdrieft_model::gen::{cases, Case, Origin};
 use kobdrieft_model::rules::accepted_cluster;
@@ -45,11 +48,11 @@ fn hand_set_cases() {
 #[test]
 fn hand_set_cases_reach_every_number() {
     let list = edges();
-    for number in (1..=9).chain(11..=19).chain([23, 27]) {
+    for number in (1..=9).chain(11..=19).chain([23, 27, 33]) {
         assert!(list.iter().any(|e| e.check.is_some_and(|(n, _)| n == number)), "{number}");
     }
     for version in Version::ALL {
-        for number in (0..=9).chain(13..=19) {
+        for number in (0..=9).chain(13..=19).chain([33]) {
             let hits = |e: &&Edge| e.check.map_or(0, |(n, _)| n) == number;
             let of_version = |e: &&Edge| e.plan.first() == Some(&(version as u8));
             assert!(list.iter().filter(hits).any(|e| of_version(&e)), "{version:?} {number}");
@@ -62,13 +65,13 @@ fn hand_set_cases_reach_every_number() {
 
 #[test]
 fn random_cases_reach_everything() {
-    let mut checks = [0; 28];
+    let mut checks = [0; NUMBERS];
     let mut builds = [0; 12];
     for Case { cluster, plan, buffer, .. } in cases(20, 40_000) {
         match check(0, &cluster, &plan) {
             Verdict::Accepted { .. } => checks[0] += 1,
             Verdict::Refused { number, step } => {
-                assert_eq!(step > 0, matches!(number, 15..=18 | 27));
+                assert_eq!(step > 0, matches!(number, 15..=18 | 27 | 33));
                 checks[usize::from(number)] += 1;
             }
         }
@@ -81,8 +84,7 @@ fn random_cases_reach_everything() {
     println!("check, accepted then by number: {checks:?}");
     println!("build, plan, by number, blocked: {builds:?}");
     for (number, &count) in checks.iter().enumerate() {
-        let possible = !matches!(number, 10 | 20..=26);
-        assert!(if possible { count >= 50 } else { count == 0 }, "check {number}: {count}");
+        assert!(if is_given(number) { count >= 50 } else { count == 0 }, "check {number}: {count}");
     }
     assert!(builds.iter().all(|&count| count >= 50), "{builds:?}");
 }
@@ -90,18 +92,14 @@ fn random_cases_reach_everything() {
 /// Plans of either version come to every outcome that they can have, and only version 2 to 27.
 #[test]
 fn random_plans_of_either_version_reach_everything() {
-    let mut seen = [[0; 28]; 2];
+    let mut seen = [[0; NUMBERS]; 2];
     for Case { cluster, plan, .. } in cases(23, 20_000) {
         let Some(version) = plan.first().and_then(|&byte| Version::of(byte)) else { continue };
-        let number = match check(0, &cluster, &plan) {
-            Verdict::Accepted { .. } => 0,
-            Verdict::Refused { number, .. } => usize::from(number),
-        };
-        seen[version as usize - 1][number] += 1;
+        seen[version as usize - 1][number_of(check(0, &cluster, &plan))] += 1;
     }
     println!("version 1, accepted then by number: {:?}", seen[0]);
     println!("version 2, accepted then by number: {:?}", seen[1]);
-    for number in (0..=9).chain(13..=19) {
+    for number in (0..=9).chain(13..=19).chain([33]) {
         assert!(seen[0][number] >= 20 && seen[1][number] >= 20, "{number}: {seen:?}");
     }
     assert!(seen[0][27] == 0 && seen[1][27] > 500, "{seen:?}");
@@ -110,13 +108,10 @@ fn random_plans_of_either_version_reach_everything() {
 /// Clusters of either version come to every outcome of checking and building.
 #[test]
 fn random_clusters_of_either_version_reach_everything() {
-    let (mut checks, mut builds) = ([[0; 28]; 2], [[0; 12]; 2]);
+    let (mut checks, mut builds) = ([[0; NUMBERS]; 2], [[0; 12]; 2]);
     for Case { cluster, plan, buffer, .. } in cases(25, 40_000) {
         let Some(version) = cluster.first().and_then(|&byte| Version::of(byte)) else { continue };
-        checks[version as usize - 1][match check(0, &cluster, &plan) {
-            Verdict::Accepted { .. } => 0,
-            Verdict::Refused { number, .. } => usize::from(number),
-        }] += 1;
+        checks[version as usize - 1][number_of(check(0, &cluster, &plan))] += 1;
         builds[version as usize - 1][match built(&cluster, buffer) {
             Answer::Plan { .. } => 0,
             Answer::Refused { number, .. } => usize::from(number),
@@ -125,7 +120,7 @@ fn random_clusters_of_either_version_reach_everything() {
     }
     println!("check, accepted then by number: {checks:?}");
     println!("build, plan, by number, blocked: {builds:?}");
-    for number in [0].into_iter().chain(3..=9).chain(11..=19).chain([27]) {
+    for number in [0].into_iter().chain(3..=9).chain(11..=19).chain([27, 33]) {
         assert!(checks.iter().all(|counts| counts[number] >= 20), "check {number}: {checks:?}");
     }
     for number in [0].into_iter().chain(3..=11) {
@@ -136,7 +131,7 @@ fn random_clusters_of_either_version_reach_everything() {
 /// Launches and shutdowns in plans that are accepted, and what they are refused with.
 #[test]
 fn random_launches_and_shutdowns() {
-    let (mut launches, mut shutdowns) = ([0; 28], [0; 28]);
+    let (mut launches, mut shutdowns) = ([0; NUMBERS], [0; NUMBERS]);
     for Case { cluster, plan, .. } in cases(26, 40_000) {
         let (Ok(room), Ok(plan)) = (accepted_cluster(0, &cluster), parse_plan(&plan)) else {
             continue;
@@ -146,7 +141,7 @@ fn random_launches_and_shutdowns() {
             Verdict::Refused { number, step } => (usize::from(number), usize::from(step)),
         };
         // The moves of the step at fault, or of all steps.
-        let from = if (15..=27).contains(&number) && at > 0 { at - 1 } else { 0 };
+        let from = if number > 0 && at > 0 { at - 1 } else { 0 };
         let mut here = rules::Placement::current(&room);
         plan.steps[..from].iter().for_each(|step| here = here.after(&room, step));
         let place = |m: &Move| here.place.get(m.vm).copied();
@@ -156,7 +151,7 @@ fn random_launches_and_shutdowns() {
     }
     println!("launches, accepted then by number: {launches:?}");
     println!("shutdowns, accepted then by number: {shutdowns:?}");
-    for number in [0, 15, 16, 17, 18, 27] {
+    for number in [0, 15, 16, 17, 18, 27, 33] {
         assert!(launches[number] >= 10 && shutdowns[number] >= 3, "{number}");
     }
 }

@@ -7,12 +7,12 @@ mod common;
 use common::has;
 use kobdrieft_model::draw::{page, Whose};
 use kobdrieft_model::edges::{cluster_a, node, room as made, room_2, sourced, steps, vm};
-use kobdrieft_model::gen::{apart, knot, plan, room, swaps, Rng, Size};
+use kobdrieft_model::gen::{apart, knot, plan, room, swaps, waiting, Rng, Size};
 use kobdrieft_model::orders::{Phase, Run};
 use kobdrieft_model::planner::make_steps;
 use kobdrieft_model::reasons::reason;
 use kobdrieft_model::reserves::{on_the_edge, some_reserve};
-use kobdrieft_model::rules::{usable_room, Placement};
+use kobdrieft_model::rules::{firsts, usable_room, Placement};
 use kobdrieft_model::*;
 use std::collections::BTreeSet;
 
@@ -779,6 +779,35 @@ fn told_sources(room: &Room, plan: &Plan, step: usize, page: &str) {
     assert!(page.matches("class=\"blamed-vm\"").count() >= wrong.len());
 }
 
+/// Holds the VMs that move too soon in a step refused with 33 against what its page tells and marks.
+fn told_waits(room: &Room, plan: &Plan, step: usize, page: &str) {
+    let start = start_of(room, &plan.steps, step);
+    let step = &plan.steps[step - 1];
+    let moves = |vm: usize| step.iter().any(|m| m.vm == vm);
+    let away = |vm: &usize| start.place[*vm] != room.vms[*vm].target;
+    let mut pairs = Vec::new();
+    for m in step {
+        let waited_for = firsts(room, m.vm).into_iter().filter(|vm| away(vm) || moves(*vm));
+        pairs.extend(waited_for.map(|first| (first, m.vm)));
+    }
+    assert!(!pairs.is_empty());
+    for (first, second) in pairs.iter().take(3) {
+        let target = place_words(room.vms[*first].target);
+        let mut said = Vec::new();
+        said.extend(
+            away(first).then(|| format!("is not on its target, {target}, when the step starts")),
+        );
+        said.extend(moves(*first).then(|| "moves in the same step".to_string()));
+        let said = said.join(", and ");
+        has(page, &[&format!("<p>VM {second} waits for VM {first}, which {said}.</p>")]);
+    }
+    assert_eq!(page.contains(" more like this."), pairs.len() > 3);
+    let places: BTreeSet<usize> = pairs.iter().map(|(first, _)| start.place[*first]).collect();
+    assert_eq!(page.matches("class=\"blamed\"").count(), places.len());
+    let vms: BTreeSet<usize> = pairs.into_iter().flat_map(|(a, b)| [a, b]).collect();
+    assert!(page.matches("class=\"blamed-vm\"").count() >= vms.len());
+}
+
 /// Follows every order that a page tells of a refused step; gives how many there are.
 fn told_orders(reserve: u64, room: &Room, plan: &Plan, page: &str) -> usize {
     let Some(at) = refused_at(reserve, room, plan) else { return 0 };
@@ -804,11 +833,11 @@ fn told_orders(reserve: u64, room: &Room, plan: &Plan, page: &str) -> usize {
 #[test]
 fn generated_plans() {
     let mut rng = Rng::new(41);
-    let (mut pages, mut refusals, mut orders, mut sources) = (0, 0, 0, 0);
+    let (mut pages, mut refusals, mut orders, mut sources, mut soon) = (0, 0, 0, 0, 0);
     let sizes = [(Size::Tiny, 400), (Size::Small, 400), (Size::Medium, 40), (Size::Large, 4)];
     for (size, how_many) in sizes {
         for _ in 0..how_many {
-            for make in [room, knot, apart] {
+            for make in [room, knot, apart, waiting] {
                 let room = make(&mut rng, size);
                 let (mut plan, _) = plan(&mut rng, &room);
                 plan.steps.truncate(40);
@@ -820,17 +849,23 @@ fn generated_plans() {
                 }
                 let page = plan_drawn(&room, &plan);
                 pages += 1;
-                if let Verdict::Refused { number: 27, step } = verdict {
-                    told_sources(&room, &plan, usize::from(step), &page);
-                    sources += 1;
-                } else {
-                    orders += told_orders(0, &room, &plan, &page);
+                match verdict {
+                    Verdict::Refused { number: 27, step } => {
+                        told_sources(&room, &plan, usize::from(step), &page);
+                        sources += 1;
+                    }
+                    Verdict::Refused { number: 33, step } => {
+                        told_waits(&room, &plan, usize::from(step), &page);
+                        soon += 1;
+                    }
+                    _ => orders += told_orders(0, &room, &plan, &page),
                 }
             }
         }
     }
-    println!("{pages} pages, {refusals} refused, {orders} orders that fail, {sources} with 27");
-    assert!(pages > 500 && refusals > 50 && orders > 50 && sources > 50);
+    println!("{pages} pages, {refusals} refused, {orders} orders that fail, {sources} with 27,");
+    println!("{soon} with 33");
+    assert!(pages > 500 && refusals > 50 && orders > 50 && sources > 50 && soon > 20);
 }
 
 // ---------------------------------------------------------------- reserves

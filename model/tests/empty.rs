@@ -89,6 +89,7 @@ fn with_every_kind(current: [usize; 2]) -> Room {
         Constraint::Fence { vms: all.clone(), nodes: nodes.clone() },
         Constraint::Spread { vms: all.clone() },
         Constraint::Latency { vms: all, groups: vec![nodes, vec![2]] },
+        Constraint::Before { first: 0, second: 1 },
     ];
     made(&[node(2, 1), node(2, 1), node(2, 1)], &vms, &constraints)
 }
@@ -104,6 +105,7 @@ fn with_some_down() -> Room {
         Constraint::Spread { vms: all.clone() },
         Constraint::Latency { vms: all, groups: vec![vec![0]] },
         Constraint::Latency { vms: down, groups: vec![] },
+        Constraint::Before { first: 2, second: 0 },
     ];
     room_2(&[node(2, 1), node(2, 1)], &vms, &constraints)
 }

@@ -110,6 +110,10 @@ fn versions_of_the_plans() {
 #[test]
 fn versions_of_the_clusters() {
     let down = [
+        "before-down",
+        "before-launch",
+        "before-shutdown",
+        "before-waits-down",
         "idle-launch",
         "latency-down",
         "launch",
@@ -136,16 +140,20 @@ fn versions_of_the_clusters() {
     assert_eq!((&a[1..], a[0], two[0]), (&two[1..], 1, 2));
 }
 
-/// The one record here that is damaged, and what it would be in version 2.
+/// The records here that are damaged: one would be whole in version 2, in the other a VM waits for itself.
 #[test]
 fn clusters_without_a_text() {
     let without: Vec<String> =
         names("cluster").into_iter().filter(|name| !cluster_has_text(name)).collect();
-    assert_eq!(without, ["launch-version-1"]);
+    assert_eq!(without, ["before-same", "launch-version-1"]);
     let mut record = bytes("launch-version-1.cluster");
     assert_eq!(parse_cluster(&record), Err(6));
     record[0] = 2;
     assert_eq!(record, bytes("launch.cluster"));
+    let mut record = bytes("before-same.cluster");
+    assert_eq!((parse_cluster(&record), &record[record.len() - 3..]), (Err(7), &[5, 0, 0][..]));
+    *record.last_mut().unwrap() = 1;
+    assert_eq!(record, bytes("before.cluster"));
 }
 
 /// The same cluster stands behind several plans.
@@ -155,6 +163,9 @@ fn clusters_that_are_the_same() {
         ("a", "a-shutdown"),
         ("launch", "launch-wrong-source"),
         ("launch-waits", "launch-at-once"),
+        ("before", "before-both"),
+        ("before", "before-pivot"),
+        ("before-moves-on", "before-leaves"),
     ];
     for (one, other) in alike {
         assert_eq!(bytes(&format!("{one}.cluster")), bytes(&format!("{other}.cluster")));
@@ -176,6 +187,29 @@ fn idle_and_its_like() {
     for name in ["idle-active", "idle-memory"] {
         assert_eq!(bytes(&format!("{name}.plan")), bytes("idle.plan"), "{name}");
     }
+}
+
+/// With nobody waiting all of these are planned in one step, and their plans accepted.
+#[test]
+fn before_and_its_like() {
+    let is_one = |name: &String| name.starts_with("before");
+    let wait: Vec<String> = names("room").into_iter().filter(is_one).collect();
+    assert_eq!(wait.len(), 10);
+    for name in wait {
+        let mut room = parse_cluster(&bytes(&format!("{name}.cluster"))).unwrap();
+        assert!(room.befores().count() > 0, "{name}");
+        room.constraints.clear();
+        let free = cluster_bytes(&room);
+        assert!(plan_text(0, &free).starts_with("plan steps 1 moves "), "{name}");
+        if names("plan").contains(&name) {
+            let verdict = check(0, &free, &bytes(&format!("{name}.plan")));
+            assert!(matches!(verdict, Verdict::Accepted { .. }), "{name}");
+        }
+    }
+    let room = parse_cluster(&bytes("before.cluster")).unwrap();
+    let own = parse_plan(&bytes("before.plan")).unwrap();
+    let record = plan_bytes(&named(&room, &own.steps));
+    assert_eq!(planned(0, &bytes("before.cluster")).1, Some(record), "the planner's own");
 }
 
 /// What the examples with sources come to without them: the wrong ones are told by their sources

@@ -279,7 +279,7 @@ fn lines_that_are_refused() {
     let table = [
         (
             "nod 4 100",
-            "no line begins with 'nod', only with version, node, vm, ban, fence, spread or latency",
+            "no line begins with 'nod', only with version, node, vm, ban, fence, spread, latency or before",
         ),
         ("step 0 to 1", "'step' belongs in a plan's text; this is read as a cluster"),
         ("version", "the line ends where the version should stand"),

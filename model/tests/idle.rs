@@ -189,7 +189,7 @@ fn orders_at_a_node_over_its_cpu() {
         let begin = order.iter().position(|event| *event == Event::Begin(1)).unwrap();
         let ended = order[..begin].contains(&Event::End(2));
         let found = follow(&room, &[0, 0, 1], &step, &order);
-        assert_eq!(found, Found { misfit: !ended, mate: false }, "{order:?}");
+        assert_eq!(found, Found { misfit: !ended, ..Found::default() }, "{order:?}");
         late += usize::from(ended);
     }
     // In 1 of 6 orders of the other two the leaver ends before the active one begins.
@@ -400,8 +400,9 @@ fn the_closed_form_says_what_all_orders_say() {
     let mut seen = [[0; 4]; 2];
     for _ in 0..40_000 {
         let (room, start, step) = crowded(&mut rng);
-        let mate = meets_mate(&Book::of(&room), &start, &step);
-        let closed = Found { misfit: misfits(&room, &start, &step), mate };
+        let (misfit, mate) =
+            (misfits(&room, &start, &step), meets_mate(&Book::of(&room), &start, &step));
+        let closed = Found { misfit, mate, ..Found::default() };
         assert_eq!(explore(&room, &start.place, &step), closed, "{room:?} {step:?}");
         let over = |to: usize| to != DOWN && start.sums[to].cpu > room.nodes[to].cpu;
         let arrives = |idle: bool| {

@@ -3,8 +3,8 @@
 
 mod common;
 
-use common::{accepted, checked, hex, refused, steps_for, Rows, DOWN};
-use kobdrieft_model::edges::{node, room as made, room_2, sourced, steps, vm};
+use common::{accepted, checked, hex, refused, steps_for, Rows, DOWN, NUMBERS};
+use kobdrieft_model::edges::{before, node, room as made, room_2, sourced, steps, vm};
 use kobdrieft_model::gen::{apart, cases, knot, plan, room, Rng, Size};
 use kobdrieft_model::orders::{every_order, follow, Event, Found};
 use kobdrieft_model::planner::make_steps;
@@ -107,7 +107,7 @@ fn no_list_has_255() {
 /// A record in which nobody is on no node comes to the same in both versions.
 #[test]
 fn the_version_alone_changes_nothing() {
-    let mut compared = [0; 30];
+    let mut compared = [0; NUMBERS];
     for case in cases(81, 30_000) {
         let Ok(room) = parse_cluster(&case.cluster) else { continue };
         if room.has_nowhere() {
@@ -118,13 +118,10 @@ fn the_version_alone_changes_nothing() {
         let verdict = check(0, &one, &case.plan);
         assert_eq!(check(0, &two, &case.plan), verdict, "{case:?}");
         assert_eq!(plan_text(0, &two), plan_text(0, &one));
-        compared[match verdict {
-            Verdict::Accepted { .. } => 0,
-            Verdict::Refused { number, .. } => usize::from(number),
-        }] += 1;
+        compared[common::number_of(verdict)] += 1;
     }
     println!("accepted, then by number: {compared:?}");
-    for number in [0, 8, 9, 11, 12, 13, 14, 15, 16, 17, 18, 19, 27] {
+    for number in [0, 8, 9, 11, 12, 13, 14, 15, 16, 17, 18, 19, 27, 33] {
         assert!(compared[number] > 20, "{number}: {compared:?}");
     }
 }
@@ -396,7 +393,8 @@ fn some_room(rng: &mut Rng, turn: usize) -> Room {
     }
 }
 
-/// A VM that stays down may need anything and stand in every list: planner and checker say the same.
+/// A VM that stays down may need anything, stand in every list and be waited for by all: planner and
+/// checker say the same.
 #[test]
 fn vms_that_stay_down() {
     let mut rng = Rng::new(83);
@@ -408,14 +406,18 @@ fn vms_that_stay_down() {
         let mut other = room.clone();
         (other.vms[down].memory, other.vms[down].cpu) = (16_777_215, 65_535);
         for constraint in &mut other.constraints {
-            let (Constraint::Ban { vms, .. }
+            if let Constraint::Ban { vms, .. }
             | Constraint::Fence { vms, .. }
             | Constraint::Spread { vms }
-            | Constraint::Latency { vms, .. }) = constraint;
-            vms.push(down);
-            vms.sort();
-            vms.dedup();
+            | Constraint::Latency { vms, .. } = constraint
+            {
+                vms.push(down);
+                vms.sort();
+                vms.dedup();
+            }
         }
+        let waits = (0..room.vms.len()).filter(|&vm| vm != down).map(|vm| before(down, vm));
+        other.constraints.extend(waits);
         let all = (0..room.nodes.len()).collect();
         other.constraints.push(Constraint::Ban { vms: vec![down], nodes: all });
         other.constraints.push(Constraint::Fence { vms: vec![down], nodes: vec![] });

@@ -1,7 +1,7 @@
 //! What must hold of every plan the planner makes, and a second planner whose soundness test is
 //! the brute force over orders.
 
-use kobdrieft_model::gen::{apart, knot, relay, ring, room, swaps, Rng, Size};
+use kobdrieft_model::gen::{apart, knot, relay, ring, room, swaps, waiting, Rng, Size};
 use kobdrieft_model::orders::{every_order, explore, follow, Found};
 use kobdrieft_model::planner::make_steps;
 use kobdrieft_model::puzzles::puzzle;
@@ -133,7 +133,7 @@ fn small_clusters() {
 fn knots() {
     for (size, how_many) in [(Size::Tiny, 10_000), (Size::Small, 10_000), (Size::Medium, 500)] {
         let seen = hold_many(15, knot, size, how_many);
-        let some = how_many / 20;
+        let some = how_many / 25;
         assert!(seen.pivoted > some && seen.blocked > some, "{seen:?}");
         assert!(seen.launched > some && seen.shut_down > some, "{seen:?}");
     }
@@ -144,6 +144,16 @@ fn clusters_that_spread() {
     for (size, how_many) in [(Size::Tiny, 10_000), (Size::Small, 10_000), (Size::Medium, 500)] {
         let seen = hold_many(16, apart, size, how_many);
         assert!(seen.pivoted > 10 && seen.blocked > 10, "{seen:?}");
+    }
+}
+
+#[test]
+fn clusters_that_wait() {
+    for (size, how_many) in [(Size::Tiny, 10_000), (Size::Small, 10_000), (Size::Medium, 500)] {
+        let seen = hold_many(20, waiting, size, how_many);
+        let some = how_many / 25;
+        assert!(seen.plans > 10 * some && seen.blocked > some, "{seen:?}");
+        assert!(seen.launched > some && seen.shut_down > some, "{seen:?}");
     }
 }
 
@@ -268,7 +278,7 @@ fn no_order_of_a_built_step_meets_a_fault() {
     let orders: Vec<_> = (0..=LISTED).map(every_order).collect();
     let mut wide = 0;
     for i in 0..3_000 {
-        let make: Make = [any_puzzle, room, apart][i % 3];
+        let make: Make = [any_puzzle, room, apart, waiting][i % 4];
         let room = make(&mut rng, Size::Tiny);
         let mut place: Vec<usize> = room.vms.iter().map(|vm| vm.current).collect();
         for step in make_steps(&room).0 {
@@ -289,7 +299,7 @@ fn the_planner_agrees_with_one_built_on_orders() {
     let mut steps_seen = 0;
     for i in 0..10_000 {
         let size = if i % 5 == 0 { Size::Small } else { Size::Tiny };
-        let make: Make = [room, knot, apart, any_puzzle][i % 4];
+        let make: Make = [room, knot, apart, any_puzzle, waiting, waiting][i % 6];
         let room = make(&mut rng, size);
         if away(&room, &room.vms.iter().map(|vm| vm.current).collect::<Vec<_>>()).len() > 5 {
             continue;

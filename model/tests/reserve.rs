@@ -4,7 +4,7 @@
 mod common;
 
 use common::{accepted, checked, checked_at, has, number_of, refused, steps_at, steps_checked_at};
-use common::{Rows, DOWN};
+use common::{is_given, Rows, DOWN, NUMBERS};
 use kobdrieft_model::draw::{page, Whose};
 use kobdrieft_model::edges::{
     a_with, cluster_a, node, over_usable, room as made, room_2, steps, vm,
@@ -134,7 +134,7 @@ fn twenty_three_comes_before_one() {
 #[test]
 fn twenty_three_comes_before_all() {
     let mut rng = Rng::new(102);
-    let mut numbers = [0; 28];
+    let mut numbers = [0; NUMBERS];
     for Case { cluster, plan, .. } in cases(103, 3_000) {
         let reserve = rng.pick(&ABOVE_90);
         assert_eq!(check(reserve, &cluster, &plan), refused(23, 0));
@@ -142,8 +142,7 @@ fn twenty_three_comes_before_all() {
         numbers[number_of(check(0, &cluster, &plan))] += 1;
     }
     println!("accepted, then by number, with no reserve: {numbers:?}");
-    let possible = |number: usize| !matches!(number, 10 | 20..=26);
-    assert!((0..28).filter(|&number| possible(number)).all(|number| numbers[number] > 0));
+    assert!((0..NUMBERS).filter(|&number| is_given(number)).all(|number| numbers[number] > 0));
 }
 
 /// A from no reserve to all of it: at 25 percent memory 3 of 4 is left, at 26 only 2.
@@ -275,12 +274,12 @@ fn launches_and_shutdowns_at_a_reserve() {
     assert_eq!(checked_at(90, &down, &[]), accepted(0));
 }
 
-/// 15, 27, 16, 18, 9, 19 and the cost do not look at it: where nodes have more than enough at each
+/// 15, 27, 16, 18, 33, 9, 19 and the cost do not look at it: where nodes have more than enough at each
 /// reserve, so has every verdict.
 #[test]
 fn what_does_not_look_at_the_reserve() {
     let mut rng = Rng::new(104);
-    let mut numbers = [0; 28];
+    let mut numbers = [0; NUMBERS];
     for turn in 0..6_000 {
         let mut room = apart(&mut rng, Size::Tiny);
         room.vms.iter_mut().for_each(|vm| (vm.memory, vm.cpu) = (vm.memory % 999 + 1, vm.cpu % 99));
@@ -301,7 +300,7 @@ fn what_does_not_look_at_the_reserve() {
         numbers[number_of(verdict)] += 1;
     }
     println!("accepted, then by number: {numbers:?}");
-    assert!([0, 12, 13, 14, 15, 16, 18, 19, 27].iter().all(|&number| numbers[number] > 5));
+    assert!([0, 12, 13, 14, 15, 16, 18, 19, 27, 33].iter().all(|&number| numbers[number] > 5));
     assert_eq!(numbers[17], 0);
 }
 
@@ -309,7 +308,7 @@ fn what_does_not_look_at_the_reserve() {
 #[test]
 fn no_plan_bytes_at_a_reserve() {
     let mut rng = Rng::new(105);
-    let mut seen = [0; 28];
+    let mut seen = [0; NUMBERS];
     for Case { cluster, .. } in cases(106, 6_000) {
         let reserve = rng.pick(&[1, 10, 50, 90, 91, u64::MAX]);
         let verdict = check(reserve, &cluster, &[]);
@@ -362,7 +361,7 @@ fn who_waits_at_a_reserve() {
 #[test]
 fn only_the_usable_amounts_count() {
     let mut rng = Rng::new(107);
-    let (mut numbers, mut builds) = ([0; 28], [0; 3]);
+    let (mut numbers, mut builds) = ([0; NUMBERS], [0; 3]);
     for Case { cluster, plan, buffer, .. } in cases(108, 12_000) {
         let Ok(room) = parse_cluster(&cluster) else { continue };
         let reserve = some_reserve(&mut rng);
@@ -387,7 +386,7 @@ fn only_the_usable_amounts_count() {
         }] += 1;
     }
     println!("accepted, then by number: {numbers:?}; plan, blocked, refused: {builds:?}");
-    for number in [0, 8, 9].into_iter().chain(11..=19).chain([27]) {
+    for number in [0, 8, 9].into_iter().chain(11..=19).chain([27, 33]) {
         assert!(numbers[number] > 10, "{number}: {numbers:?}");
     }
     assert!(builds.iter().all(|&count| count > 100), "{builds:?}");
@@ -413,7 +412,7 @@ fn edge_case(rng: &mut Rng, turn: usize) -> (u64, Room, Plan) {
 #[test]
 fn more_reserve_is_stricter() {
     let mut rng = Rng::new(109);
-    let (mut kept, mut lost, mut by) = (0, 0, [0; 28]);
+    let (mut kept, mut lost, mut by) = (0, 0, [0; NUMBERS]);
     for turn in 0..12_000 {
         let (reserve, room, plan) = edge_case(&mut rng, turn);
         let (cluster, plan) = (cluster_bytes(&room), plan_bytes(&plan));

@@ -1,5 +1,8 @@
 //! The command itself, run on files.
 
+mod common;
+
+use common::NUMBERS;
 use kobdrieft_model::gen::{cases, Case};
 use kobdrieft_model::reasons::reason;
 use kobdrieft_model::rules::plan_cost;
@@ -367,7 +370,7 @@ fn whole(cluster: &[u8], plan: &[u8]) -> Option<(Room, Plan)> {
 #[test]
 fn the_last_word_is_the_cost() {
     let here = Folder::new("cost-cases");
-    let mut seen = [0; 28];
+    let mut seen = [0; NUMBERS];
     for Case { cluster, plan, .. } in cases(4, 800) {
         here.put("cluster", &cluster);
         here.put("plan", &plan);
@@ -392,7 +395,7 @@ fn the_last_word_is_the_cost() {
         let widths: BTreeSet<usize> = table.lines().map(str::len).collect();
         assert_eq!(widths.len(), 1, "{table}");
     }
-    for number in [0, 8, 9, 15, 16, 17, 18, 19, 27] {
+    for number in [0, 8, 9, 15, 16, 17, 18, 19, 27, 33] {
         assert!(seen[number] > 0, "{number}: {seen:?}");
     }
 }

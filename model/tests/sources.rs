@@ -3,9 +3,11 @@
 
 mod common;
 
-use common::refused;
+use common::{number_of, refused, NUMBERS};
 use kobdrieft_model::edges::{cluster_a, edges, node, room as made, steps, vm};
-use kobdrieft_model::gen::{apart, knot, one_wrong, other_file, plan, room, swaps, Rng, Size};
+use kobdrieft_model::gen::{
+    apart, knot, one_wrong, other_file, plan, room, swaps, waiting, Rng, Size,
+};
 use kobdrieft_model::orders::{explore, Found};
 use kobdrieft_model::planner::make_steps;
 use kobdrieft_model::rules::may_go;
@@ -18,7 +20,7 @@ fn some_room(rng: &mut Rng, turn: usize) -> Room {
         1..=9 => Size::Small,
         _ => Size::Tiny,
     };
-    [room, knot, apart][turn % 3](rng, size)
+    [room, knot, apart, waiting][turn % 4](rng, size)
 }
 
 /// Steps as a plan of version 2 with every source right, whatever they named before.
@@ -57,7 +59,7 @@ fn expected(room: &Room, plan: &Plan, without: Verdict) -> Verdict {
 #[test]
 fn verdicts_by_those_without_sources() {
     let mut rng = Rng::new(71);
-    let (mut wrong, mut first, mut behind_15, mut before) = (0, 0, 0, [0; 20]);
+    let (mut wrong, mut first, mut behind_15, mut before) = (0, 0, 0, [0; NUMBERS]);
     for turn in 0..40_000 {
         let room = some_room(&mut rng, turn);
         let (plan, _) = plan(&mut rng, &room);
@@ -73,11 +75,7 @@ fn verdicts_by_those_without_sources() {
         if let Verdict::Refused { number: 27, step } = verdict {
             wrong += 1;
             first += usize::from(step == 1);
-            let in_the_way = match without {
-                Verdict::Accepted { .. } => 0,
-                Verdict::Refused { number, .. } => usize::from(number),
-            };
-            before[in_the_way] += 1;
+            before[number_of(without)] += 1;
         } else if let Verdict::Refused { number: 15, step } = verdict {
             behind_15 += usize::from(first_wrong(&room, &plan.steps) == Some(step));
         }
@@ -85,7 +83,7 @@ fn verdicts_by_those_without_sources() {
     println!("27: {wrong}, in the first step {first}; 15 before 27: {behind_15}");
     println!("27 where it would else be accepted, then by number: {before:?}");
     assert!(first > 500 && wrong - first > 500 && behind_15 > 200);
-    for number in [0, 16, 17, 18, 19] {
+    for number in [0, 16, 17, 18, 19, 33] {
         assert!(before[number] > 20, "{number}: {before:?}");
     }
 }

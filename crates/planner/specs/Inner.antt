@@ -1,16 +1,16 @@
 -- What inner functions answer, on the way to the definitions before. Nothing here has to be believed.
 use Prim.Native.Nat.{ℕ, zero, suc, _+_, _*_, _<_, _≤_, _^_}
-use mathlib.Core.Bool.{Bool, true, not, _&&_}
+use mathlib.Core.Bool.{Bool, true, false, not, _&&_}
 use mathlib.Core.List.{List, [], _∷_, _++_}
 use mathlib.Core.Path.{_≡_}
 use lib.ListN.{length, getD, set}
 use lib.Dec.{eqb}
 use Rattle.records.specs.Base.{pick, all}
-use Rattle.records.specs.Room.{Constraint, ban, fence, spread, latency, Room, roomOf, roomAt, vmOf, vmCount, constraintOf}
+use Rattle.records.specs.Room.{Constraint, ban, fence, spread, latency, before, Room, roomOf, roomAt, vmOf, vmCount, constraintOf}
 use Rattle.records.specs.Plan.{Step, withSources, moveTotal, stepsBytes, written, shaped}
 use Rattle.records.specs.Inner.{tellsSources}
 use Rattle.records.specs.declared.plan.Source.the-variants.{Unnamed, Named}
-use Rattle.rules.specs.Moments.{Placement, placeOf, currentOf, targetOf, bearsAt, withVm, tallyAt, firstMoment, allRunning}
+use Rattle.rules.specs.Moments.{Placement, placeOf, currentOf, targetOf, atTarget, bearsAt, withVm, tallyAt, firstMoment, allRunning}
 use Rattle.rules.specs.Orders.{spreads, some, meetsMate}
 use Rattle.rules.specs.Rules.{allowed, soundStep}
 use Rattle.rules.specs.Verdict.{home}
@@ -40,6 +40,7 @@ paired table (ban vms nodes) = table
 paired table (fence vms nodes) = table
 paired table (spread vms) = pairRows table vms vms
 paired table (latency vms groups) = table
+paired table (before first second) = table
 
 unfoldable pub pairedAll : List ℕ → List (List ℕ) → List ℕ
 pairedAll table [] = table
@@ -54,6 +55,38 @@ pub record Blank (table : List ℕ) : Type 0 where
 pub record Pairs (s table : List ℕ) : Type 0 where
   pub each : (v w : ℕ) → v < vmCount s → w < vmCount s → getD table (v * 256 + w) 0 ≡ pick (some (spreads v w) (roomOf s .constraints)) 1 0
 
+-- ---- who waits, as a mark a VM
+
+-- a constraint holds VM v back at a placement: it has a VM before v that is off its target
+unfoldable pub holdsBack : Room → Placement → ℕ → Constraint → Bool
+holdsBack room places v (ban vms nodes) = false
+holdsBack room places v (fence vms nodes) = false
+holdsBack room places v (spread vms) = false
+holdsBack room places v (latency vms groups) = false
+holdsBack room places v (before first second) = eqb second v && not (atTarget room places first)
+
+unfoldable pub heldBack : Room → Placement → ℕ → Bool
+heldBack room places v = some (holdsBack room places v) (room .constraints)
+
+-- the second of two VMs marked, unless the first is on its target; the same of a constraint, and of all
+unfoldable pub pairHeld : Room → List ℕ → List ℕ → ℕ → ℕ → List ℕ
+pairHeld room places marks first second = pick (eqb (getD places first 0) (vmOf room first .target)) marks (set marks second 1)
+
+unfoldable pub partHeld : Room → List ℕ → List ℕ → Constraint → List ℕ
+partHeld room places marks (ban vms nodes) = marks
+partHeld room places marks (fence vms nodes) = marks
+partHeld room places marks (spread vms) = marks
+partHeld room places marks (latency vms groups) = marks
+partHeld room places marks (before first second) = pairHeld room places marks first second
+
+unfoldable pub allHeld : Room → List ℕ → List ℕ → List (List ℕ) → List ℕ
+allHeld room places marks [] = marks
+allHeld room places marks (p ∷ ps) = allHeld room places (partHeld room places marks (constraintOf p)) ps
+
+-- the marks tell which VMs are held back at the places of an array
+pub record Waiting (s places marks : List ℕ) : Type 0 where
+  pub each : (v : ℕ) → v < vmCount s → getD marks v 0 ≡ pick (heldBack (roomOf s) (held s places) v) 1 0
+
 -- ---- a move beside the moves of an array of destinations
 
 -- a tally that a VM can be added to
@@ -67,7 +100,7 @@ joinsIn reserve s places dests here v d =
     not (eqb (getD places v 0) d) &&
     (allowed (roomAt reserve s) v d &&
     (bearsAt (roomAt reserve s) d (withVm here (vmOf (roomAt reserve s) v)) (vmOf (roomAt reserve s) v) &&
-    not (meetsMate (roomAt reserve s) (busyFrom places dests 0 (vmCount s)) v d)))
+    (not (meetsMate (roomAt reserve s) (busyFrom places dests 0 (vmCount s)) v d) && not (heldBack (roomAt reserve s) (held s places) v))))
 
 -- where VM v goes: to its target if it may, else it has no move
 unfoldable pub goalOf : ℕ → List ℕ → List ℕ → List ℕ → Tally → ℕ → ℕ
@@ -127,8 +160,8 @@ behindStep d p = pick (eqb d noMove) p d
 -- ---- the steps written
 
 -- the steps of the planner stand in the buffer behind the place of the header, and nothing else has changed
-pub record Trailed (reserve : ℕ) (s before after : List ℕ) (r : Trail) : Type 0 where
-  pub buffer : after ≡ written before 7 (stepsBytes (stepsFor (roomAt reserve s)))
+pub record Trailed (reserve : ℕ) (s old after : List ℕ) (r : Trail) : Type 0 where
+  pub buffer : after ≡ written old 7 (stepsBytes (stepsFor (roomAt reserve s)))
   pub end : r .end ≡ 7 + length (stepsBytes (stepsFor (roomAt reserve s)))
   pub steps : r .steps ≡ length (stepsFor (roomAt reserve s))
   pub moves : r .moves ≡ moveTotal (stepsFor (roomAt reserve s))

@@ -9,7 +9,7 @@ use Rattle.records.specs.Base.{pick, sumOf}
 use Rattle.records.specs.Room.{Room, onNode}
 use Rattle.records.specs.Plan.{Move, Step, withSources}
 use Rattle.records.specs.declared.plan.Source.the-variants.{Unnamed, Named}
-use Rattle.rules.specs.Moments.{Placement, placeOf, targetOf, after}
+use Rattle.rules.specs.Moments.{Placement, placeOf, targetOf, atTarget, after}
 use Rattle.rules.specs.Orders.{some}
 use Rattle.rules.specs.Rules.{from, soundStep}
 
@@ -24,7 +24,7 @@ nodesIn room = from 0 (length (room .nodes))
 
 -- VM v is not on its target
 unfoldable pub away : Room → Placement → ℕ → Bool
-away room places v = not (eqb (placeOf places v) (placeOf (targetOf room) v))
+away room places v = not (atTarget room places v)
 
 -- how many VMs are out of place; k is this at the current nodes
 unfoldable pub awayCount : Room → Placement → ℕ

@@ -16,7 +16,7 @@ use Rattle.rules.specs.Rules.{targetCheck, soundStep}
 use Rattle.rules.specs.Cost.{costOf}
 use Rattle.rules.specs.Verdict.{verdictOf}
 use Rattle.rules.specs.Returned.{toldNumber, toldStep, toldSteps, toldMoves, toldCost, SaysGood, SaysBlocked, SaysRefused}
-use Rattle.rules.specs.Promises.{afterAll, namedAll, sourcedAll, Obeys, EveryRun, SoundInOrders, NamesPlaces, StaysWithin, StaysApart, KeepsRunning}
+use Rattle.rules.specs.Promises.{afterAll, namedAll, sourcedAll, Obeys, InTurn, EveryRun, SoundInOrders, NamesPlaces, StaysWithin, StaysApart, KeepsRunning, WaitsItsTurn}
 use Rattle.rules.specs.declared.faults.TargetCheck.{TargetCheck}
 use Rattle.rules.specs.declared.faults.Fault.{Fault}
 use Rattle.rules.specs.declared.faults.Verdict.{Verdict}
@@ -62,10 +62,12 @@ pub record Stuck (room : Room) (places : Placement) : Type 0 where
 pub record Written (reserve : ℕ) (cluster plan : List ℕ) (made : Made) : Type 0 where
   -- they are the ones that the planner picks
   pub picks : Picks (roomAt reserve cluster) (currentOf (roomAt reserve cluster)) (stepsOf plan)
-  -- none has fault 15 or 27, and every whole run, whatever its orders, obeys the rules at each begin and reaches one placement
+  -- none has fault 15 or 27, and every whole run, whatever its orders, obeys the rules at each begin, moves nobody before its turn, and reaches
+  -- one placement
   pub named : namedAll (roomAt reserve cluster) (currentOf (roomAt reserve cluster)) (stepsOf plan) ≡ true
   pub well-sourced : sourcedAll (currentOf (roomAt reserve cluster)) (stepsOf plan) ≡ true
   pub obeys : (last : Placement) (run : Run (roomAt reserve cluster) (currentOf (roomAt reserve cluster)) (stepsOf plan) last) → EachBeginOfRun (Obeys (roomAt reserve cluster)) run
+  pub in-turn : (last : Placement) (run : Run (roomAt reserve cluster) (currentOf (roomAt reserve cluster)) (stepsOf plan) last) → InTurn (roomAt reserve cluster) run
   pub reaches : (last : Placement) → Run (roomAt reserve cluster) (currentOf (roomAt reserve cluster)) (stepsOf plan) last → last ≡ afterAll (currentOf (roomAt reserve cluster)) (stepsOf plan)
   -- in no run does a node that is within what it has go past it, or one over its memory take a VM, or one over its CPU take an active one, or do
   -- mates that are apart meet
@@ -73,6 +75,8 @@ pub record Written (reserve : ℕ) (cluster plan : List ℕ) (made : Made) : Typ
   pub apart : StaysApart (roomAt reserve cluster) (currentOf (roomAt reserve cluster)) (stepsOf plan)
   -- nor is a VM taken down that is wanted on a node (02, Job 2)
   pub running : KeepsRunning (roomAt reserve cluster) (currentOf (roomAt reserve cluster)) (stepsOf plan)
+  -- nor is one moved while a VM that comes before it is off its target or moves too (02, Job 13)
+  pub waits : WaitsItsTurn (roomAt reserve cluster) (currentOf (roomAt reserve cluster)) (stepsOf plan)
   -- how many steps there can be, by the number of VMs out of place at the current nodes
   pub none : awayCount (roomAt reserve cluster) (currentOf (roomAt reserve cluster)) ≡ 0 → stepsOf plan ≡ []
   pub short : 0 < awayCount (roomAt reserve cluster) (currentOf (roomAt reserve cluster)) → length (stepsOf plan) + 1 ≤ 2 * awayCount (roomAt reserve cluster) (currentOf (roomAt reserve cluster))
@@ -88,8 +92,8 @@ pub record Written (reserve : ℕ) (cluster plan : List ℕ) (made : Made) : Typ
   pub moves : made .moves ≡ moveTotal (stepsOf plan)
   pub cost : made .cost ≡ costOf (roomAt reserve cluster) (stepsOf plan)
 
--- of a plan: every whole run obeys the rules and ends with every VM on its target, which is what `check` is exact about; and the checker
--- accepts it at the cost given
+-- of a plan: every whole run obeys the rules, moves nobody before its turn and ends with every VM on its target, which is what `check` is exact
+-- about; and the checker accepts it at the cost given
 pub record Planned (reserve : ℕ) (cluster plan : List ℕ) (made : Made) : Type 0 where
   pub written : Written reserve cluster plan made
   pub runs : EveryRun (roomAt reserve cluster) (currentOf (roomAt reserve cluster)) (stepsOf plan)

@@ -1,6 +1,7 @@
 // Whether a move can be added to the moves of a step: its own test, at its destination only.
 use crate::mates::PairTable;
 use crate::mates::meets;
+use crate::waits::Waits;
 use rules::AllowTable;
 use rules::Destinations;
 use rules::NODES;
@@ -13,7 +14,7 @@ ghost use Rattle.records.specs.Room.{mostReserve, roomAt, nodeOf, vmOf, nodeCou
 ghost use Rattle.records.specs.declared.faults.ClusterCheck.{ClusterCheck};
 ghost use Rattle.rules.specs.Moments.{bears, withVm};
 ghost use Rattle.rules.specs.Inner.{Allows};
-ghost use Rattle.planner.specs.Inner.{Pairs, joinsIn, Light};
+ghost use Rattle.planner.specs.Inner.{Pairs, Waiting, joinsIn, Light};
 
 // Whether node d bears a tally with VM v added, for that VM.
 fn fits_with(reserve: u64, cluster: &[u8], here: Tally, v: usize, d: usize) -> bool
@@ -30,22 +31,27 @@ fn fits_with(reserve: u64, cluster: &[u8], here: Tally, v: usize, d: usize) -> b
 }
 
 // Whether VM v may go to d beside the moves of an array of destinations, `here` being the tally of d with those moves running if d is a node.
-// To no node nothing is asked.
+// A VM that waits may go nowhere; to no node nothing else is asked.
 pub fn may_join(
     reserve: u64,
     cluster: &[u8],
     allow: &AllowTable,
     pairs: &PairTable,
+    waits: &Waits,
     places: &Placement,
     dests: &Destinations,
     here: Tally,
     v: usize,
     d: usize,
 ) -> bool
-    requires { ⌜ (clusterCheck (now cluster) ≡ ClusterCheck.Whole) × (reserve ≤ mostReserve) × Allows (now cluster) (now allow) × Pairs (now cluster) (now pairs) × (v < vmCount (now cluster)) × (placeOk true (nodeCount (now cluster)) d ≡ true) × Light here ⌝ }
+    requires { ⌜ (clusterCheck (now cluster) ≡ ClusterCheck.Whole) × (reserve ≤ mostReserve) × Allows (now cluster) (now allow) × Pairs (now cluster) (now pairs) × Waiting (now cluster) (now places) (now waits) × (v < vmCount (now cluster)) × (placeOk true (nodeCount (now cluster)) d ≡ true) × Light here ⌝ }
     ensures { λ r. ⌜ r ≡ joinsIn reserve (now (cluster .entry)) (now (places .entry)) (now (dests .entry)) here v d ⌝ }
 {
-    if rules::place_at(places, v) == d {
+    let place = rules::place_at(places, v);
+    if place == d {
+        return false;
+    }
+    if waits[v] != 0 {
         return false;
     }
     if NODES <= d {

@@ -6,6 +6,7 @@ mod mates;
 mod pivot;
 mod plan;
 mod steps;
+mod waits;
 
 ghost use Rattle.planner.specs.Promises.{Built};
 

@@ -54,6 +54,7 @@ fn pair_part(p: &[u8], table: &mut PairTable)
         Kind::Ban => {}
         Kind::Fence => {}
         Kind::Latency => {}
+        Kind::Before => {}
     }
 }
 

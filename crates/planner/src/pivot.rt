@@ -2,6 +2,7 @@
 // there, whether a pivot helps does not depend on its node, so the lowest sound node of a VM is tried and no other.
 use crate::join::may_join;
 use crate::mates::PairTable;
+use crate::waits::Waits;
 use rules::AllowTable;
 use rules::Destinations;
 use rules::NO_MOVE;
@@ -19,7 +20,7 @@ ghost use Rattle.records.specs.declared.faults.ClusterCheck.{ClusterCheck};
 ghost use Rattle.rules.specs.Rules.{soundStep};
 ghost use Rattle.rules.specs.Inner.{held, Allows, Placed, Loads, destsFrom};
 ghost use Rattle.planner.specs.Picks.{moving, directStep, pivotStep, vmsIn, nodesIn};
-ghost use Rattle.planner.specs.Inner.{Pairs, Rested, aside, pivotNode, comer, comesTo, usefulNode};
+ghost use Rattle.planner.specs.Inner.{Pairs, Waiting, Rested, aside, pivotNode, comer, comesTo, usefulNode};
 
 // Whether moving VM v alone to node d is a sound step, `here` being the tally of d with all VMs at rest.
 fn goes_alone(
@@ -27,16 +28,28 @@ fn goes_alone(
     cluster: &[u8],
     allow: &AllowTable,
     pairs: &PairTable,
+    waits: &Waits,
     places: &Placement,
     here: Tally,
     v: usize,
     d: usize,
 ) -> bool
-    requires { ⌜ (clusterCheck (now cluster) ≡ ClusterCheck.Whole) × (reserve ≤ mostReserve) × Allows (now cluster) (now allow) × Pairs (now cluster) (now pairs) × (v < vmCount (now cluster)) × (d < nodeCount (now cluster)) × Rested (now cluster) (now places) d here ⌝ }
+    requires { ⌜ (clusterCheck (now cluster) ≡ ClusterCheck.Whole) × (reserve ≤ mostReserve) × Allows (now cluster) (now allow) × Pairs (now cluster) (now pairs) × Waiting (now cluster) (now places) (now waits) × (v < vmCount (now cluster)) × (d < nodeCount (now cluster)) × Rested (now cluster) (now places) d here ⌝ }
     ensures { λ r. ⌜ r ≡ soundStep (roomAt reserve (now (cluster .entry))) (held (now (cluster .entry)) (now (places .entry))) (moving v d ∷ []) ⌝ }
 {
     let rest = [NO_MOVE; VMS];
-    may_join(reserve, cluster, allow, pairs, places, &rest, here, v, d)
+    may_join(
+        reserve,
+        cluster,
+        allow,
+        pairs,
+        waits,
+        places,
+        &rest,
+        here,
+        v,
+        d,
+    )
 }
 
 // The same, but not to its target.
@@ -45,18 +58,19 @@ fn goes_aside(
     cluster: &[u8],
     allow: &AllowTable,
     pairs: &PairTable,
+    waits: &Waits,
     places: &Placement,
     here: Tally,
     v: usize,
     d: usize,
 ) -> bool
-    requires { ⌜ (clusterCheck (now cluster) ≡ ClusterCheck.Whole) × (reserve ≤ mostReserve) × Allows (now cluster) (now allow) × Pairs (now cluster) (now pairs) × (v < vmCount (now cluster)) × (d < nodeCount (now cluster)) × Rested (now cluster) (now places) d here ⌝ }
+    requires { ⌜ (clusterCheck (now cluster) ≡ ClusterCheck.Whole) × (reserve ≤ mostReserve) × Allows (now cluster) (now allow) × Pairs (now cluster) (now pairs) × Waiting (now cluster) (now places) (now waits) × (v < vmCount (now cluster)) × (d < nodeCount (now cluster)) × Rested (now cluster) (now places) d here ⌝ }
     ensures { λ r. ⌜ r ≡ aside (roomAt reserve (now (cluster .entry))) (held (now (cluster .entry)) (now (places .entry))) v d ⌝ }
 {
     if records::vm_target(cluster, v) as usize == d {
         return false;
     }
-    goes_alone(reserve, cluster, allow, pairs, places, here, v, d)
+    goes_alone(reserve, cluster, allow, pairs, waits, places, here, v, d)
 }
 
 // The lowest node that VM v may go to alone, its target left out; the number of nodes if there is none.
@@ -65,18 +79,19 @@ fn pivot_node(
     cluster: &[u8],
     allow: &AllowTable,
     pairs: &PairTable,
+    waits: &Waits,
     places: &Placement,
     sums: Sums,
     v: usize,
 ) -> usize
-    requires { ⌜ (clusterCheck (now cluster) ≡ ClusterCheck.Whole) × (reserve ≤ mostReserve) × Allows (now cluster) (now allow) × Pairs (now cluster) (now pairs) × Loads (now cluster) (now places) (replicate 256 64) sums × (v < vmCount (now cluster)) ⌝ }
+    requires { ⌜ (clusterCheck (now cluster) ≡ ClusterCheck.Whole) × (reserve ≤ mostReserve) × Allows (now cluster) (now allow) × Pairs (now cluster) (now pairs) × Waiting (now cluster) (now places) (now waits) × Loads (now cluster) (now places) (replicate 256 64) sums × (v < vmCount (now cluster)) ⌝ }
     ensures { λ r. ⌜ r ≡ pivotNode (roomAt reserve (now (cluster .entry))) (held (now (cluster .entry)) (now (places .entry))) v (nodesIn (roomAt reserve (now (cluster .entry)))) ⌝ }
 {
     let n = records::node_count(cluster);
     let mut d: usize = 0;
     while d < n {
         let here = sums[d];
-        if goes_aside(reserve, cluster, allow, pairs, places, here, v, d) {
+        if goes_aside(reserve, cluster, allow, pairs, waits, places, here, v, d) {
             return d;
         }
         d += 1;
@@ -90,13 +105,14 @@ fn comes(
     cluster: &[u8],
     allow: &AllowTable,
     pairs: &PairTable,
+    waits: &Waits,
     places: &Placement,
     here: Tally,
     v: usize,
     p: usize,
     u: usize,
 ) -> bool
-    requires { ⌜ (clusterCheck (now cluster) ≡ ClusterCheck.Whole) × (reserve ≤ mostReserve) × Allows (now cluster) (now allow) × Pairs (now cluster) (now pairs) × (u < vmCount (now cluster)) × (p < nodeCount (now cluster)) × Rested (now cluster) (now places) p here ⌝ }
+    requires { ⌜ (clusterCheck (now cluster) ≡ ClusterCheck.Whole) × (reserve ≤ mostReserve) × Allows (now cluster) (now allow) × Pairs (now cluster) (now pairs) × Waiting (now cluster) (now places) (now waits) × (u < vmCount (now cluster)) × (p < nodeCount (now cluster)) × Rested (now cluster) (now places) p here ⌝ }
     ensures { λ r. ⌜ r ≡ comer (roomAt reserve (now (cluster .entry))) (held (now (cluster .entry)) (now (places .entry))) v p u ⌝ }
 {
     if records::vm_target(cluster, u) as usize != p {
@@ -105,7 +121,7 @@ fn comes(
     if u == v {
         return false;
     }
-    goes_alone(reserve, cluster, allow, pairs, places, here, u, p)
+    goes_alone(reserve, cluster, allow, pairs, waits, places, here, u, p)
 }
 
 // Whether some VM other than v may go alone to node p, its target.
@@ -114,11 +130,12 @@ fn some_comes(
     cluster: &[u8],
     allow: &AllowTable,
     pairs: &PairTable,
+    waits: &Waits,
     places: &Placement,
     v: usize,
     p: usize,
 ) -> bool
-    requires { ⌜ (clusterCheck (now cluster) ≡ ClusterCheck.Whole) × (reserve ≤ mostReserve) × Allows (now cluster) (now allow) × Pairs (now cluster) (now pairs) × Placed (now cluster) (now places) × (p < nodeCount (now cluster)) ⌝ }
+    requires { ⌜ (clusterCheck (now cluster) ≡ ClusterCheck.Whole) × (reserve ≤ mostReserve) × Allows (now cluster) (now allow) × Pairs (now cluster) (now pairs) × Waiting (now cluster) (now places) (now waits) × Placed (now cluster) (now places) × (p < nodeCount (now cluster)) ⌝ }
     ensures { λ r. ⌜ r ≡ comesTo (roomAt reserve (now (cluster .entry))) (held (now (cluster .entry)) (now (places .entry))) v p (vmsIn (roomAt reserve (now (cluster .entry)))) ⌝ }
 {
     let n = records::vm_count(cluster);
@@ -127,7 +144,7 @@ fn some_comes(
     let here = sums[p];
     let mut u: usize = 0;
     while u < n {
-        if comes(reserve, cluster, allow, pairs, places, here, v, p, u) {
+        if comes(reserve, cluster, allow, pairs, waits, places, here, v, p, u) {
             return true;
         }
         u += 1;
@@ -141,11 +158,12 @@ fn useful_node(
     cluster: &[u8],
     allow: &AllowTable,
     pairs: &PairTable,
+    waits: &Waits,
     places: Placement,
     sums: Sums,
     v: usize,
 ) -> usize
-    requires { ⌜ (clusterCheck (now cluster) ≡ ClusterCheck.Whole) × (reserve ≤ mostReserve) × Allows (now cluster) (now allow) × Pairs (now cluster) (now pairs) × Placed (now cluster) places × Loads (now cluster) places (replicate 256 64) sums × (v < vmCount (now cluster)) × (directStep (roomAt reserve (now cluster)) (held (now cluster) places) ≡ []) ⌝ }
+    requires { ⌜ (clusterCheck (now cluster) ≡ ClusterCheck.Whole) × (reserve ≤ mostReserve) × Allows (now cluster) (now allow) × Pairs (now cluster) (now pairs) × Waiting (now cluster) places (now waits) × Placed (now cluster) places × Loads (now cluster) places (replicate 256 64) sums × (v < vmCount (now cluster)) × (directStep (roomAt reserve (now cluster)) (held (now cluster) places) ≡ []) ⌝ }
     ensures { λ r. ⌜ r ≡ usefulNode (roomAt reserve (now (cluster .entry))) (held (now (cluster .entry)) places) v (nodesIn (roomAt reserve (now (cluster .entry)))) ⌝ }
 {
     let n = records::node_count(cluster);
@@ -157,13 +175,13 @@ fn useful_node(
     if NODES <= p {
         return n;
     }
-    let d = pivot_node(reserve, cluster, allow, pairs, &places, sums, v);
+    let d = pivot_node(reserve, cluster, allow, pairs, waits, &places, sums, v);
     if n <= d {
         return n;
     }
     let mut then = places;
     then[v] = d as u8;
-    if some_comes(reserve, cluster, allow, pairs, &then, v, p) {
+    if some_comes(reserve, cluster, allow, pairs, waits, &then, v, p) {
         return d;
     }
     n
@@ -175,9 +193,10 @@ pub fn pivot_step(
     cluster: &[u8],
     allow: &AllowTable,
     pairs: &PairTable,
+    waits: &Waits,
     places: Placement,
 ) -> Destinations
-    requires { ⌜ (clusterCheck (now cluster) ≡ ClusterCheck.Whole) × (reserve ≤ mostReserve) × Allows (now cluster) (now allow) × Pairs (now cluster) (now pairs) × Placed (now cluster) places × (directStep (roomAt reserve (now cluster)) (held (now cluster) places) ≡ []) ⌝ }
+    requires { ⌜ (clusterCheck (now cluster) ≡ ClusterCheck.Whole) × (reserve ≤ mostReserve) × Allows (now cluster) (now allow) × Pairs (now cluster) (now pairs) × Waiting (now cluster) places (now waits) × Placed (now cluster) places × (directStep (roomAt reserve (now cluster)) (held (now cluster) places) ≡ []) ⌝ }
     ensures { λ r. ⌜ r ≡ destsFrom (pivotStep (roomAt reserve (now (cluster .entry))) (held (now (cluster .entry)) places)) ⌝ }
 {
     let n = records::vm_count(cluster);
@@ -186,7 +205,7 @@ pub fn pivot_step(
     let sums = rules::loads(cluster, &places, &dests);
     let mut v: usize = 0;
     while v < n {
-        let d = useful_node(reserve, cluster, allow, pairs, places, sums, v);
+        let d = useful_node(reserve, cluster, allow, pairs, waits, places, sums, v);
         if d < nodes {
             dests[v] = d as u8;
             return dests;

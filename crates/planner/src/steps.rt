@@ -2,6 +2,7 @@
 use crate::direct::direct_step;
 use crate::mates::PairTable;
 use crate::pivot::pivot_step;
+use crate::waits::waiting;
 use rules::AllowTable;
 use rules::Destinations;
 use rules::NO_MOVE;
@@ -46,11 +47,12 @@ fn next_step(
     requires { ⌜ (clusterCheck (now cluster) ≡ ClusterCheck.Whole) × (reserve ≤ mostReserve) × Allows (now cluster) (now allow) × Pairs (now cluster) (now pairs) × Placed (now cluster) places ⌝ }
     ensures { λ r. ⌜ r ≡ destsFrom (nextStep (roomAt reserve (now (cluster .entry))) (held (now (cluster .entry)) places)) ⌝ }
 {
-    let dests = direct_step(reserve, cluster, allow, pairs, &places);
+    let waits = waiting(cluster, &places);
+    let dests = direct_step(reserve, cluster, allow, pairs, &waits, &places);
     if has_moves(&dests, records::vm_count(cluster)) {
         return dests;
     }
-    pivot_step(reserve, cluster, allow, pairs, places)
+    pivot_step(reserve, cluster, allow, pairs, &waits, places)
 }
 
 // Puts VM v's move, if it has one, as move n of the step at a place, with its source, and tells how many moves there are then.

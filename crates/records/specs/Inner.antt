@@ -1,13 +1,13 @@
 -- What inner functions answer, on the way to the definitions of Room and Plan. Nothing here has to be believed.
 use Prim.Native.Nat.{ℕ, zero, suc, _+_, _≤_, _<_}
-use mathlib.Core.Bool.{Bool, true, false, _&&_}
+use mathlib.Core.Bool.{Bool, true, false, not, _&&_}
 use mathlib.Core.List.{List, [], _∷_}
 use mathlib.Core.Path.{_≡_}
 use lib.ListN.{length, getD, set, take, drop, replicate}
 use lib.Dec.{ltb, leb, eqb}
 use Rattle.records.specs.Base.{pick, all}
 use Rattle.records.specs.Bytes.{byteAt}
-use Rattle.records.specs.Room.{listOk, apart, nodesAt, nodesEnd, groupsFrom, groupsEnd, kindAt, nodeCount, vmCount, partsFrom, partsEnd, wellFormed}
+use Rattle.records.specs.Room.{listOk, apart, nodesAt, nodesEnd, groupsFrom, groupsEnd, kindAt, firstAt, secondAt, pairEnd, nodeCount, vmCount, partsFrom, partsEnd, wellFormed}
 use Rattle.records.specs.Plan.{Step, stepsFrom, stepsEnd, sized, moveTotal}
 use Rattle.records.specs.declared.plan.Source.{Source}
 use Rattle.records.specs.declared.plan.Source.the-variants.{Unnamed, Named}
@@ -74,6 +74,10 @@ othersOk limit p at =
     (pick (eqb (kindAt p) 1) (nodesOk limit p at)
     (pick (eqb (kindAt p) 2) (nodesOk limit p at)
     false)))
+
+-- a part of two VMs, different ones of v
+unfoldable pub pairOk : ℕ → List ℕ → Bool
+pairOk v p = eqb pairEnd (length p) && (ltb (firstAt p) v && (ltb (secondAt p) v && not (eqb (firstAt p) (secondAt p))))
 
 -- so many steps from a place, behind so many moves: counts in their ranges, and they fill the record
 unfoldable pub stepsOk : List ℕ → ℕ → ℕ → ℕ → Bool

@@ -12,7 +12,7 @@ use Rattle.records.specs.declared.faults.ClusterFault.the-variants.{TooS
 use Rattle.records.specs.declared.faults.ClusterCheck.{ClusterCheck}
 use Rattle.records.specs.declared.faults.ClusterCheck.the-variants.{Whole, Damaged}
 use Rattle.records.specs.declared.constraints.Kind.{Kind}
-use Rattle.records.specs.declared.constraints.Kind.the-variants.{Ban, Fence, Spread, Latency}
+use Rattle.records.specs.declared.constraints.Kind.the-variants.{Ban, Fence, Spread, Latency, Before}
 
 -- ---- what a record stands for
 
@@ -36,12 +36,14 @@ pub record Vm : Type 0 where
   pub current : ℕ
   pub target : ℕ
 
--- the four kinds of constraint, with the VMs they bind and the nodes, or groups of nodes, they name
+-- the five kinds of constraint: four with a list of the VMs they bind and the nodes, or groups of nodes, they name; and one with two VMs, of
+-- which the first is to be on its target before the second moves (02, Job 13)
 pub data Constraint : Type 0 where
   ban : List ℕ → List ℕ → Constraint
   fence : List ℕ → List ℕ → Constraint
   spread : List ℕ → Constraint
   latency : List ℕ → List (List ℕ) → Constraint
+  before : ℕ → ℕ → Constraint
 
 pub record Room : Type 0 where
   pub nodes : List Node
@@ -81,30 +83,49 @@ atReserve reserve room = record { nodes = map (usableNode reserve) (room .nodes)
 
 -- ---- constraints
 
--- a constraint's kind, VMs, nodes and groups
+-- a constraint's kind; its lists of VMs, nodes and groups, empty where its kind has none
 unfoldable pub kindOf : Constraint → Kind
 kindOf (ban vms nodes) = Ban
 kindOf (fence vms nodes) = Fence
 kindOf (spread vms) = Spread
 kindOf (latency vms groups) = Latency
+kindOf (before first second) = Before
 
 unfoldable pub vmsOf : Constraint → List ℕ
 vmsOf (ban vms nodes) = vms
 vmsOf (fence vms nodes) = vms
 vmsOf (spread vms) = vms
 vmsOf (latency vms groups) = vms
+vmsOf (before first second) = []
 
 unfoldable pub nodesOf : Constraint → List ℕ
 nodesOf (ban vms nodes) = nodes
 nodesOf (fence vms nodes) = nodes
 nodesOf (spread vms) = []
 nodesOf (latency vms groups) = []
+nodesOf (before first second) = []
 
 unfoldable pub groupsOf : Constraint → List (List ℕ)
 groupsOf (ban vms nodes) = []
 groupsOf (fence vms nodes) = []
 groupsOf (spread vms) = []
 groupsOf (latency vms groups) = groups
+groupsOf (before first second) = []
+
+-- its two VMs; 0 where its kind has none
+unfoldable pub firstOf : Constraint → ℕ
+firstOf (ban vms nodes) = 0
+firstOf (fence vms nodes) = 0
+firstOf (spread vms) = 0
+firstOf (latency vms groups) = 0
+firstOf (before first second) = first
+
+unfoldable pub secondOf : Constraint → ℕ
+secondOf (ban vms nodes) = 0
+secondOf (fence vms nodes) = 0
+secondOf (spread vms) = 0
+secondOf (latency vms groups) = 0
+secondOf (before first second) = second
 
 -- ---- reading the header and the rows
 
@@ -191,20 +212,32 @@ kindAt p = byteAt p 2
 abbrev pub othersAt : List ℕ → ℕ
 othersAt p = vmsEnd p 3
 
--- the constraint that a part stands for: kind 1 ban, 2 fence, 3 spread, else 4 latency
+-- two VMs in place of the lists: the first stands behind the kind byte, the second behind it, and they end the part
+abbrev pub firstAt : List ℕ → ℕ
+firstAt p = byteAt p 3
+
+abbrev pub secondAt : List ℕ → ℕ
+secondAt p = byteAt p 4
+
+abbrev pub pairEnd : ℕ
+pairEnd = 5
+
+-- the constraint that a part stands for: kind 1 ban, 2 fence, 3 spread, 4 latency, else 5 before
 unfoldable pub constraintOf : List ℕ → Constraint
 constraintOf p =
     pick (eqb (kindAt p) 1) (ban (vmsAt p 3) (nodesAt p (othersAt p)))
     (pick (eqb (kindAt p) 2) (fence (vmsAt p 3) (nodesAt p (othersAt p)))
     (pick (eqb (kindAt p) 3) (spread (vmsAt p 3))
-    (latency (vmsAt p 3) (groupsFrom p (othersAt p + 1) (byteAt p (othersAt p))))))
+    (pick (eqb (kindAt p) 4) (latency (vmsAt p 3) (groupsFrom p (othersAt p + 1) (byteAt p (othersAt p))))
+    (before (firstAt p) (secondAt p)))))
 
--- where its lists end
+-- where its lists, or its two VMs, end
 unfoldable pub listsEnd : List ℕ → ℕ
 listsEnd p =
     pick (eqb (kindAt p) 3) (othersAt p)
     (pick (eqb (kindAt p) 4) (groupsEnd p (othersAt p + 1) (byteAt p (othersAt p)))
-    (nodesEnd p (othersAt p)))
+    (pick (eqb (kindAt p) 5) pairEnd
+    (nodesEnd p (othersAt p))))
 
 -- the room that a record stands for
 unfoldable pub roomOf : List ℕ → Room
@@ -258,16 +291,17 @@ unfoldable pub apart : List (List ℕ) → Bool
 apart [] = true
 apart (g ∷ gs) = all (λ h. disjoint h g) gs && apart gs
 
--- order, count and range of a constraint's lists, among v VMs and n nodes
+-- order, count and range of a constraint's lists, among v VMs and n nodes; of two VMs the range, and that they differ
 unfoldable pub constraintOk : ℕ → ℕ → Constraint → Bool
 constraintOk v n (ban vms nodes) = listOk v vms && listOk n nodes
 constraintOk v n (fence vms nodes) = listOk v vms && listOk n nodes
 constraintOk v n (spread vms) = listOk v vms
 constraintOk v n (latency vms groups) = listOk v vms && (leb (length groups) 64 && (all (listOk n) groups && apart groups))
+constraintOk v n (before first second) = ltb first v && (ltb second v && not (eqb first second))
 
--- a part has a kind, a known one, and lists that fill it
+-- a part has a kind, a known one, and lists, or two VMs, that fill it
 unfoldable pub filled : List ℕ → Bool
-filled p = leb 1 (kindAt p) && (leb (kindAt p) 4 && eqb (listsEnd p) (length p))
+filled p = leb 1 (kindAt p) && (leb (kindAt p) 5 && eqb (listsEnd p) (length p))
 
 unfoldable pub wellFormed : ℕ → ℕ → List ℕ → Bool
 wellFormed v n p = filled p && constraintOk v n (constraintOf p)

@@ -10,15 +10,16 @@ ghost use mathlib.Core.Path.{_≡_};
 ghost use mathlib.Core.Bool.{true};
 ghost use Prim.Native.Nat.{_+_, _≤_, _<_};
 ghost use lib.ListN.{length};
-ghost use Rattle.records.specs.Room.{kindOf, vmsOf, nodesOf, groupsOf, nodesAt, nodesEnd, othersAt, constraintOf, filled, wellFormed};
+ghost use Rattle.records.specs.Room.{kindOf, vmsOf, nodesOf, groupsOf, firstOf, secondOf, nodesAt, nodesEnd, kindAt, othersAt, constraintOf, filled, wellFormed};
 ghost use Rattle.records.specs.declared.constraints.Kind.{Kind};
-ghost use Rattle.records.specs.Inner.{nodesOk, groupsOk, othersOk};
+ghost use Rattle.records.specs.Inner.{nodesOk, groupsOk, othersOk, pairOk};
 
 pub enum Kind {
     Ban,
     Fence,
     Spread,
     Latency,
+    Before,
 }
 
 // Whether a sound node list runs from `at` to the end.
@@ -73,13 +74,34 @@ fn others_sound(p: &[u8], at: usize, nodes: usize) -> bool
     false
 }
 
-// Whether the constraint has a known kind and sound lists that fill it, for so many VMs and nodes.
+// Whether the part is that of two different VMs, of so many.
+fn pair_sound(p: &[u8], vms: usize) -> bool
+    ensures { λ r. ⌜ r ≡ pairOk vms (now (p .entry)) ⌝ }
+{
+    if p.len() != 5 {
+        return false;
+    }
+    let first = count8(p, 3);
+    if vms <= first {
+        return false;
+    }
+    let second = count8(p, 4);
+    if vms <= second {
+        return false;
+    }
+    first != second
+}
+
+// Whether the constraint has a known kind and sound lists, or two VMs, that fill it, for so many VMs and nodes.
 pub fn constraint_sound(p: &[u8], vms: usize, nodes: usize) -> bool
     requires { ⌜ nodes ≤ 64 ⌝ }
     ensures { λ r. ⌜ r ≡ wellFormed vms nodes (now (p .entry)) ⌝ }
 {
     if p.len() < 3 {
         return false;
+    }
+    if byte(p, 2) == 5 {
+        return pair_sound(p, vms);
     }
     let found = vm_list(p, 3, vms);
     match found {
@@ -103,24 +125,31 @@ pub fn kind_at(p: &[u8]) -> Kind
     if k == 3 {
         return Kind::Spread;
     }
-    Kind::Latency
+    if k == 4 {
+        return Kind::Latency;
+    }
+    Kind::Before
 }
 
 // Where the lists behind the VM list start.
 fn others_at(p: &[u8]) -> usize
-    requires { ⌜ filled (now p) ≡ true ⌝ }
+    requires { ⌜ (filled (now p) ≡ true) × (kindAt (now p) < 5) ⌝ }
     ensures { λ r. ⌜ (r ≡ othersAt (now (p .entry))) × (5 ≤ r) × (r ≤ length (now (p .entry))) ⌝ }
 {
     5 + count16(p, 3)
 }
 
-// The VMs that a constraint binds.
+// The VM list of a constraint; none of one that has two VMs.
 pub fn bound_vms(p: &[u8]) -> &[u8]
     requires { ⌜ filled (now p) ≡ true ⌝ }
     ensures { λ r. ⌜ now r ≡ vmsOf (constraintOf (now (p .entry))) ⌝ }
 {
-    let end = others_at(p);
-    &p[5..end]
+    if byte(p, 2) < 5 {
+        let end = others_at(p);
+        &p[5..end]
+    } else {
+        &p[..0]
+    }
 }
 
 // The nodes that a ban or a fence names; none of another kind.
@@ -146,10 +175,26 @@ pub fn group_count(p: &[u8]) -> usize
 
 // Where the first group starts; each next one starts where the one before it ends.
 pub fn first_group(p: &[u8]) -> usize
-    requires { ⌜ filled (now p) ≡ true ⌝ }
+    requires { ⌜ (filled (now p) ≡ true) × (kindOf (constraintOf (now p)) ≡ Kind.Latency) ⌝ }
     ensures { λ r. ⌜ r ≡ othersAt (now (p .entry)) + 1 ⌝ }
 {
     others_at(p) + 1
+}
+
+// The VM that comes first, of a constraint that has two.
+pub fn first_vm(p: &[u8]) -> u8
+    requires { ⌜ (filled (now p) ≡ true) × (kindOf (constraintOf (now p)) ≡ Kind.Before) ⌝ }
+    ensures { λ r. ⌜ r ≡ firstOf (constraintOf (now (p .entry))) ⌝ }
+{
+    byte(p, 3)
+}
+
+// The VM that comes second.
+pub fn second_vm(p: &[u8]) -> u8
+    requires { ⌜ (filled (now p) ≡ true) × (kindOf (constraintOf (now p)) ≡ Kind.Before) ⌝ }
+    ensures { λ r. ⌜ r ≡ secondOf (constraintOf (now (p .entry))) ⌝ }
+{
+    byte(p, 4)
 }
 
 // The nodes of the group at a place.

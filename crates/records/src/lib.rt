@@ -40,10 +40,12 @@ pub use room::vm_target;
 pub use constraints::Kind;
 pub use constraints::bound_vms;
 pub use constraints::first_group;
+pub use constraints::first_vm;
 pub use constraints::group_count;
 pub use constraints::group_nodes;
 pub use constraints::kind_at;
 pub use constraints::named_nodes;
+pub use constraints::second_vm;
 pub use walk::part;
 
 // A plan record.

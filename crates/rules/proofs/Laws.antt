@@ -2,10 +2,12 @@
 pub mod Bears
 pub mod Reserve
 pub mod Orders
+pub mod Turn
 pub mod Sound
 pub mod Runs
 pub mod Spreads
 pub mod Running
+pub mod Waiting
 pub mod Sources
 pub mod Returned
 pub mod Verdicts
@@ -20,6 +22,7 @@ pub mod Allow
 pub mod Walks
 pub mod Mates
 pub mod Meet
+pub mod Bound
 pub mod Check
 pub mod Costs
 pub mod Targets

@@ -1,19 +1,19 @@
 -- What inner functions answer, on the way to the definitions before. Nothing here has to be believed.
 use Prim.Native.Nat.{ℕ, zero, suc, _+_, _-_, _*_, _/_, _%_, _<_, _≤_, _^_}
-use mathlib.Core.Bool.{Bool, true, false, not, _||_}
+use mathlib.Core.Bool.{Bool, true, false, not, _&&_, _||_}
 use mathlib.Core.List.{List, [], _∷_, _++_, map}
 use mathlib.Core.Path.{_≡_}
 use lib.ListN.{length, getD, set, take, drop, replicate}
 use lib.Dec.{ltb, eqb}
 use Rattle.records.specs.Base.{pick, all, sumOf}
-use Rattle.records.specs.Room.{Constraint, ban, fence, spread, latency, Room, vmOf, nodeOf, roomOf, roomAt, nodeCount, vmCount, nodesOf, groupsOf, placeOk, listOk, groupsFrom, groupsEnd, constraintOf, filled, clusterCheck}
+use Rattle.records.specs.Room.{Constraint, ban, fence, spread, latency, before, Room, vmOf, nodeOf, roomOf, roomAt, nodeCount, vmCount, nodesOf, groupsOf, placeOk, listOk, groupsFrom, groupsEnd, constraintOf, filled, clusterCheck}
 use Rattle.records.specs.Inner.{Below, Steps}
 use Rattle.records.specs.Plan.{Move, Step, moveOf, stepAt, stepEnd, stepsFrom, stepsOf}
 use Rattle.records.specs.declared.faults.ClusterCheck.{ClusterCheck}
-use Rattle.rules.specs.Moments.{Placement, placeOf, targetOf, Phase, staying, running, cell, Moment, tallyAt, emptyTally, within, bearsAt}
+use Rattle.rules.specs.Moments.{Placement, atTarget, Phase, staying, running, cell, Moment, tallyAt, emptyTally, within, bearsAt}
 use Rattle.rules.specs.Cost.{memoryOf, costOf}
 use Rattle.rules.specs.Orders.{some}
-use Rattle.rules.specs.Rules.{from, allowed, named, fitting, unmet}
+use Rattle.rules.specs.Rules.{from, allowed, named, fitting, unmet, inTurn}
 use Rattle.rules.specs.Verdict.{faultStep, stepsVerdict, planVerdict}
 use Rattle.rules.specs.declared.faults.Verdict.{Verdict}
 use Rattle.rules.specs.declared.faults.StepFault.{StepFault}
@@ -125,6 +125,7 @@ applied table (ban vms nodes) = listKept table (stopped (replicate 64 0) 1 nodes
 applied table (fence vms nodes) = listKept table (stopped (replicate 64 1) 0 nodes) vms
 applied table (spread vms) = table
 applied table (latency vms groups) = table
+applied table (before first second) = table
 
 unfoldable pub appliedAll : List ℕ → List (List ℕ) → List ℕ
 appliedAll table [] = table
@@ -161,6 +162,28 @@ spreadOk places dests (ban vms nodes) = true
 spreadOk places dests (fence vms nodes) = true
 spreadOk places dests (spread vms) = listUnmet places dests vms
 spreadOk places dests (latency vms groups) = true
+spreadOk places dests (before first second) = true
+
+-- ---- who waits for whom
+
+-- a VM moves only with the other at rest on its target
+unfoldable pub pairInTurn : Room → List ℕ → List ℕ → ℕ → ℕ → Bool
+pairInTurn room places dests first second =
+    eqb (getD dests second 0) noMove || (eqb (getD dests first 0) noMove && eqb (getD places first 0) (vmOf room first .target))
+
+unfoldable pub turnOk : Room → List ℕ → List ℕ → Constraint → Bool
+turnOk room places dests (ban vms nodes) = true
+turnOk room places dests (fence vms nodes) = true
+turnOk room places dests (spread vms) = true
+turnOk room places dests (latency vms groups) = true
+turnOk room places dests (before first second) = pairInTurn room places dests first second
+
+-- 18 and 33
+unfoldable pub boundCheck : Room → List ℕ → List ℕ → StepCheck
+boundCheck room places dests =
+    pick (not (all (spreadOk places dests) (room .constraints))) (StepCheck.Faulty StepFault.Mate)
+    (pick (not (all (turnOk room places dests) (room .constraints))) (StepCheck.Faulty StepFault.Early)
+    StepCheck.Clear)
 
 -- ---- a step
 
@@ -171,14 +194,17 @@ pub record Held (s plan : List ℕ) (at : ℕ) (places : List ℕ) : Type 0 wher
   pub well-named : named (roomOf s) (held s places) 0 (stepAt plan at) ≡ true
   pub placed : Placed s places
 
--- 17 and 18
+-- 17, 18 and 33
 unfoldable pub runningCheck : Room → Placement → Step → StepCheck
 runningCheck room places step =
-    pick (not (fitting room places step)) (StepCheck.Faulty StepFault.Misfit) (pick (not (unmet room places step)) (StepCheck.Faulty StepFault.Mate) StepCheck.Clear)
+    pick (not (fitting room places step)) (StepCheck.Faulty StepFault.Misfit)
+    (pick (not (unmet room places step)) (StepCheck.Faulty StepFault.Mate)
+    (pick (not (inTurn room places step)) (StepCheck.Faulty StepFault.Early)
+    StepCheck.Clear))
 
 -- the sum over the moves of a step, behind steps of a given cost
 unfoldable pub movesCost : Room → ℕ → Step → ℕ
-movesCost room before step = sumOf (λ move. memoryOf room move + before) step
+movesCost room spent step = sumOf (λ move. memoryOf room move + spent) step
 
 -- ---- the target
 
@@ -194,7 +220,7 @@ fitsUpTo room sums d n = all (λ e. within (nodeOf room e) (getD sums e emptyTal
 
 -- n VMs from v on are on their targets
 unfoldable pub homeFrom : Room → Placement → ℕ → ℕ → Bool
-homeFrom room places v n = all (λ u. eqb (placeOf places u) (placeOf (targetOf room) u)) (from v n)
+homeFrom room places v n = all (λ u. atTarget room places u) (from v n)
 
 -- no VM is on a stopped node
 unfoldable pub clearOf : List ℕ → List ℕ → List ℕ → Bool
@@ -214,6 +240,7 @@ keepsIn places (ban vms nodes) = clearOf (stopped (replicate 64 0) 1 nodes) plac
 keepsIn places (fence vms nodes) = clearOf (stopped (replicate 64 1) 0 nodes) places vms
 keepsIn places (spread vms) = goUnmet (replicate 256 0) places vms
 keepsIn places (latency vms groups) = allDown places vms || some (groupHolds places vms) groups
+keepsIn places (before first second) = true
 
 -- the last n groups of a constraint's part start at a place
 pub record Grouping (p : List ℕ) (at n : ℕ) : Type 0 where

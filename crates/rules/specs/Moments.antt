@@ -23,6 +23,10 @@ currentOf room = map (λ vm. vm .current) (room .vms)
 unfoldable pub targetOf : Room → Placement
 targetOf room = map (λ vm. vm .target) (room .vms)
 
+-- VM v is on its target
+abbrev pub atTarget : Room → Placement → ℕ → Bool
+atTarget room places v = eqb (placeOf places v) (placeOf (targetOf room) v)
+
 -- what a step makes of a placement: its moves, put in one by one
 unfoldable pub after : Placement → Step → Placement
 after places [] = places

@@ -6,9 +6,9 @@ use mathlib.Core.Logic.{_⊎_}
 use mathlib.Core.Path.{_≡_}
 use lib.Dec.{eqb}
 use Rattle.records.specs.Base.{pick}
-use Rattle.records.specs.Room.{Constraint, ban, fence, spread, latency, has, Room, vmOf, onNode}
+use Rattle.records.specs.Room.{Constraint, ban, fence, spread, latency, before, has, Room, vmOf, onNode}
 use Rattle.records.specs.Plan.{Step}
-use Rattle.rules.specs.Moments.{Placement, waiting, running, ended, Cell, cell, Moment, numberOf, countsOn, bearsAt, withVm, tallyAt, firstMoment, atRest, settled, placesLeft}
+use Rattle.rules.specs.Moments.{Placement, staying, waiting, running, ended, Cell, cell, Moment, numberOf, countsOn, bearsAt, withVm, tallyAt, firstMoment, atRest, settled, placesLeft}
 
 -- ---- what happens in a step
 
@@ -47,6 +47,7 @@ spreads v w (ban vms nodes) = false
 spreads v w (fence vms nodes) = false
 spreads v w (spread vms) = has vms v && has vms w
 spreads v w (latency vms groups) = false
+spreads v w (before first second) = false
 
 unfoldable pub some : {A : Type 0} → (A → Bool) → List A → Bool
 some p [] = false
@@ -62,6 +63,25 @@ meetsMate room cs v d = pick (onNode d) (some (λ c. mates room v (numberOf c) &
 -- VM v counts on a place at a moment
 unfoldable pub standsOn : Moment → ℕ → ℕ → Bool
 standsOn cs v d = some (λ c. eqb (numberOf c) v && countsOn d c) cs
+
+-- VM v's move is under way at a moment; VM v is at rest on a place at a moment, with no move in the step
+unfoldable pub isRunning : Cell → Bool
+isRunning (cell v place staying) = false
+isRunning (cell v place (waiting to)) = false
+isRunning (cell v place (running to)) = true
+isRunning (cell v place (ended to)) = false
+
+unfoldable pub runsAt : Moment → ℕ → Bool
+runsAt cs v = some (λ c. eqb (numberOf c) v && isRunning c) cs
+
+unfoldable pub staysOn : ℕ → Cell → Bool
+staysOn d (cell v place staying) = eqb place d
+staysOn d (cell v place (waiting to)) = false
+staysOn d (cell v place (running to)) = false
+staysOn d (cell v place (ended to)) = false
+
+unfoldable pub restsOn : Moment → ℕ → ℕ → Bool
+restsOn cs v d = some (λ c. eqb (numberOf c) v && staysOn d c) cs
 
 -- two VMs share no node: there is none on which both count
 abbrev pub Apart : ℕ → ℕ → Moment → Type 0
@@ -96,6 +116,11 @@ abbrev pub EachBeginOfRun : (P : Moment → ℕ → ℕ → Type 0) {room : Room
 EachBeginOfRun P stop = Unit
 EachBeginOfRun P (step o s r) = EachBegin P o × EachBeginOfRun P r
 
+-- P holds of each step of a run: of the placement from which the run starts it, and its moves
+abbrev pub EachStepOfRun : (P : Placement → Step → Type 0) {room : Room} {places last : Placement} {steps : List Step} → Run room places steps last → Type 0
+EachStepOfRun P stop = Unit
+EachStepOfRun P (step {places = places} {moves = moves} o s r) = P places moves × EachStepOfRun P r
+
 abbrev pub EachMomentOfRun : (Q : Moment → Type 0) {room : Room} {places last : Placement} {steps : List Step} → Run room places steps last → Type 0
 EachMomentOfRun Q {room = room} (stop {places = places}) = Q (atRest room places)
 EachMomentOfRun Q (step o s r) = EachMoment Q o × EachMomentOfRun Q r
@@ -105,7 +130,7 @@ EachChangeOfRun R stop = Unit
 EachChangeOfRun R {room = room} (step {places = places} {moves = moves} {end = end} o s r) =
     R (atRest room places) (firstMoment room places moves) × EachChange R o × R end (atRest room (placesLeft end)) × EachChangeOfRun R r
 
--- a move may begin: it fits, and meets no mate; so to no node it always may
+-- a move may begin: it fits, and meets no mate; so to no node it always may (whether it is its turn is asked of the step: Rules, inTurn)
 pub record MayBegin (room : Room) (cs : Moment) (v d : ℕ) : Type 0 where
   pub fit : fits room cs v d ≡ true
   pub apart : meetsMate room cs v d ≡ false

@@ -13,8 +13,8 @@ use Rattle.records.specs.declared.plan.Source.the-variants.{Named}
 use Rattle.records.specs.declared.faults.ClusterCheck.{ClusterCheck}
 use Rattle.records.specs.declared.faults.PlanCheck.{PlanCheck}
 use Rattle.rules.specs.Moments.{Placement, placeOf, currentOf, targetOf, after, Moment, tallyAt, firstMoment, atRest, settled}
-use Rattle.rules.specs.Orders.{Order, Run, fits, mates, meetsMate, standsOn, Apart, MayBegin, EachBegin, SomeBegin, EachBeginOfRun, EachMomentOfRun, EachChangeOfRun}
-use Rattle.rules.specs.Rules.{allowed, targetCheck, named, sourced, permitted, soundStep}
+use Rattle.rules.specs.Orders.{Order, Run, fits, mates, meetsMate, standsOn, Apart, MayBegin, EachBegin, SomeBegin, EachBeginOfRun, EachStepOfRun, EachMomentOfRun, EachChangeOfRun, runsAt, restsOn}
+use Rattle.rules.specs.Rules.{allowed, targetCheck, named, sourced, permitted, inTurn, waitsFor, soundStep}
 use Rattle.rules.specs.Cost.{costOf}
 use Rattle.rules.specs.Verdict.{home, verdictOf, faultNumber, faultStep, packed}
 use Rattle.rules.specs.Returned.{toldNumber, toldStep, toldCost, SaysGood, SaysRefused}
@@ -53,15 +53,22 @@ pub record Obeys (room : Room) (cs : Moment) (v d : ℕ) : Type 0 where
   pub may : MayBegin room cs v d
   pub permitted : allowed room v d ≡ true
 
--- every whole run of the steps, whatever its orders, obeys the rules at each begin and ends with every VM on its target
+-- in a run, nobody moves before its turn: asked of each step, at the placement from which the run starts it (02, Job 13)
+abbrev pub InTurn : (room : Room) {places last : Placement} {steps : List Step} → Run room places steps last → Type 0
+InTurn room run = EachStepOfRun (λ start step. inTurn room start step ≡ true) run
+
+-- every whole run of the steps, whatever its orders, obeys the rules at each begin, moves nobody before its turn, and ends with every VM on its
+-- target
 pub record EveryRun (room : Room) (places : Placement) (steps : List Step) : Type 0 where
   pub obeys : (last : Placement) (run : Run room places steps last) → EachBeginOfRun (Obeys room) run
+  pub in-turn : (last : Placement) (run : Run room places steps last) → InTurn room run
   pub ends : (last : Placement) → Run room places steps last → home room last ≡ true
 
--- a step is sound over orders: no fault 15, and each begin of each of its orders obeys the rules
+-- a step is sound over orders: no fault 15, each begin of each of its orders obeys the rules, and nobody moves before its turn
 pub record SoundInOrders (room : Room) (places : Placement) (step : Step) : Type 0 where
   pub well-named : named room places 0 step ≡ true
   pub obeys : (end : Moment) (order : Order (firstMoment room places step) end) → settled end ≡ true → EachBegin (Obeys room) order
+  pub in-turn : inTurn room places step ≡ true
 
 -- some order of a step has a begin with P
 pub record SomeOrder (room : Room) (places : Placement) (step : Step) (P : Moment → ℕ → ℕ → Type 0) : Type 0 where
@@ -70,7 +77,7 @@ pub record SomeOrder (room : Room) (places : Placement) (step : Step) (P : Momen
   pub whole : settled end ≡ true
   pub begin : SomeBegin P order
 
--- ---- what the numbers 15 to 19 and 27 mean
+-- ---- what the numbers 15 to 19, 27 and 33 mean
 
 -- 15: a VM is not there or not above the one before it, or a destination is not one that it can be sent to, or is its place
 pub record FaultNames (room : Room) (places : Placement) (step : Step) : Type 0 where
@@ -105,6 +112,15 @@ pub record FaultMate (room : Room) (places : Placement) (step : Step) : Type 0 w
   pub fit : SomeOrder room places step (λ cs v d. fits room cs v d ≡ false) → ⊥
   pub mate : SomeOrder room places step (λ cs v d. meetsMate room cs v d ≡ true)
 
+-- 33: none of 15, 27 and 16, no order has a begin without room or one beside a mate, and the step moves somebody before its turn
+pub record FaultTurn (room : Room) (places : Placement) (step : Step) : Type 0 where
+  pub well-named : named room places 0 step ≡ true
+  pub well-sourced : sourced places step ≡ true
+  pub permitted : permitted room step ≡ true
+  pub fit : SomeOrder room places step (λ cs v d. fits room cs v d ≡ false) → ⊥
+  pub apart : SomeOrder room places step (λ cs v d. meetsMate room cs v d ≡ true) → ⊥
+  pub early : inTurn room places step ≡ false
+
 -- step n, counted from 0, is the first at fault, and P is its fault: the steps before it are sound and name no wrong source, and P holds of
 -- it at the placement from which it starts in every run
 pub record FirstAtFault (room : Room) (places : Placement) (steps : List Step) (n : ℕ) (P : Placement → Step → Type 0) : Type 0 where
@@ -113,11 +129,13 @@ pub record FirstAtFault (room : Room) (places : Placement) (steps : List Step) (
   pub earlier-sourced : sourcedAll places (take n steps) ≡ true
   pub fault : (start : Placement) → Run room places (take n steps) start → P start (getD steps n [])
 
--- 19: no step is at fault, every run obeys the rules at each begin, and every run ends with some VM off its target
+-- 19: no step is at fault, every run obeys the rules at each begin and moves nobody before its turn, and every run ends with some VM off its
+-- target
 pub record EndsAway (room : Room) (places : Placement) (steps : List Step) : Type 0 where
   pub sound : soundAll room places steps ≡ true
   pub well-sourced : sourcedAll places steps ≡ true
   pub obeys : (last : Placement) (run : Run room places steps last) → EachBeginOfRun (Obeys room) run
+  pub in-turn : (last : Placement) (run : Run room places steps last) → InTurn room run
   pub away : (last : Placement) → Run room places steps last →
       (v : ℕ) × (v < length (room .vms)) × (placeOf last v ≡ placeOf (targetOf room) v → ⊥)
 
@@ -183,6 +201,14 @@ pub record KeepsRunning (room : Room) (places : Placement) (steps : List Step) :
       placeOf places v < length (room .nodes) → placeOf (targetOf room) v < length (room .nodes) →
       EachMomentOfRun (λ cs. (d : ℕ) × (d < length (room .nodes)) × (standsOn cs v d ≡ true)) run
 
+-- the operator's point on VMs that come before others, in every run (02, Job 13). At each begin of a VM, and at each moment while its move is under
+-- way, every VM that it waits for is at rest on its target: it has arrived, and has no move in the step
+pub record WaitsItsTurn (room : Room) (places : Placement) (steps : List Step) : Type 0 where
+  pub begins : (last : Placement) (run : Run room places steps last) (first second : ℕ) → waitsFor room second first ≡ true →
+      EachBeginOfRun (λ cs v d. v ≡ second → restsOn cs first (placeOf (targetOf room) first) ≡ true) run
+  pub runs : (last : Placement) (run : Run room places steps last) (first second : ℕ) → waitsFor room second first ≡ true →
+      EachMomentOfRun (λ cs. runsAt cs second ≡ true → restsOn cs first (placeOf (targetOf room) first) ≡ true) run
+
 -- version 1 of the cluster record knows no `nowhere` (02, Job 2). Every VM is on a node and is wanted on one, and a step that sends one to no
 -- node has fault 15 at any placement
 pub record NothingDown (room : Room) : Type 0 where
@@ -205,14 +231,15 @@ pub record Checked (reserve : ℕ) (cluster plan : List ℕ) (r : ℕ) : Type 0 
   pub told : TellsVerdict r (verdictOf reserve cluster plan)
   -- 23 exactly if more than 90 percent are to be kept, whatever the records are
   pub reserved : SaysRefused r 23 0 ↔ (mostReserve < reserve)
-  -- with none of the faults 23, 1 to 9, 11 to 15 and 27: accepted exactly if every run obeys the rules and ends on the target
+  -- with none of the faults 23, 1 to 9, 11 to 15 and 27: accepted exactly if every run obeys the rules, moves nobody before its turn and ends on
+  -- the target
   pub exact : Shaped reserve cluster plan → namedAll (roomAt reserve cluster) (currentOf (roomAt reserve cluster)) (stepsOf plan) ≡ true →
       sourcedAll (currentOf (roomAt reserve cluster)) (stepsOf plan) ≡ true →
       SaysGood r ↔ EveryRun (roomAt reserve cluster) (currentOf (roomAt reserve cluster)) (stepsOf plan)
   -- and nothing else is accepted
   pub only : SaysGood r → Shaped reserve cluster plan × (namedAll (roomAt reserve cluster) (currentOf (roomAt reserve cluster)) (stepsOf plan) ≡ true) ×
       (sourcedAll (currentOf (roomAt reserve cluster)) (stepsOf plan) ≡ true)
-  -- 15 to 19 and 27 mean what they say
+  -- 15 to 19, 27 and 33 mean what they say
   pub misnamed : (n : ℕ) → SaysRefused r 15 (suc n) ↔
       (Shaped reserve cluster plan × FirstAtFault (roomAt reserve cluster) (currentOf (roomAt reserve cluster)) (stepsOf plan) n (FaultNames (roomAt reserve cluster)))
   pub elsewhere : (n : ℕ) → SaysRefused r 27 (suc n) ↔
@@ -223,6 +250,8 @@ pub record Checked (reserve : ℕ) (cluster plan : List ℕ) (r : ℕ) : Type 0 
       (Shaped reserve cluster plan × FirstAtFault (roomAt reserve cluster) (currentOf (roomAt reserve cluster)) (stepsOf plan) n (FaultFit (roomAt reserve cluster)))
   pub mate : (n : ℕ) → SaysRefused r 18 (suc n) ↔
       (Shaped reserve cluster plan × FirstAtFault (roomAt reserve cluster) (currentOf (roomAt reserve cluster)) (stepsOf plan) n (FaultMate (roomAt reserve cluster)))
+  pub early : (n : ℕ) → SaysRefused r 33 (suc n) ↔
+      (Shaped reserve cluster plan × FirstAtFault (roomAt reserve cluster) (currentOf (roomAt reserve cluster)) (stepsOf plan) n (FaultTurn (roomAt reserve cluster)))
   pub off-target : SaysRefused r 19 0 ↔ (Shaped reserve cluster plan × EndsAway (roomAt reserve cluster) (currentOf (roomAt reserve cluster)) (stepsOf plan))
   -- an accepted plan costs what Entropy estimates, which is below 2 to the 43
   pub cost : SaysGood r → toldCost r ≡ costOf (roomAt reserve cluster) (stepsOf plan)
@@ -233,6 +262,8 @@ pub record Checked (reserve : ℕ) (cluster plan : List ℕ) (r : ℕ) : Type 0 
   -- nor takes a VM down that is wanted on a node; in a cluster of version 1 nobody is down or is to be, and a shutdown is 15 (02, Job 2)
   pub running : SaysGood r → KeepsRunning (roomAt reserve cluster) (currentOf (roomAt reserve cluster)) (stepsOf plan)
   pub version-1 : clusterCheck cluster ≡ ClusterCheck.Whole → versionOf cluster ≡ 1 → NothingDown (roomAt reserve cluster)
+  -- nor moves a VM while one that comes before it is off its target or moves too (02, Job 13)
+  pub waits : SaysGood r → WaitsItsTurn (roomAt reserve cluster) (currentOf (roomAt reserve cluster)) (stepsOf plan)
   -- an accepted plan of version 2 names for every move the place of its VM when the step starts; nothing but 27 looks at a source; a
   -- plan that is not of version 2 has no step with 27 (02, Job 7)
   pub sources : SaysGood r → versionOf plan ≡ 2 → NamesPlaces (roomAt reserve cluster) (currentOf (roomAt reserve cluster)) (stepsOf plan)

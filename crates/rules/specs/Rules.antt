@@ -1,23 +1,23 @@
--- Which destinations are allowed, what the target owes, and the faults of a step (01, "Numbers of the refusals", 8, 9, 15 to 18; 02, Job 2, and
--- Job 7, 27).
+-- Which destinations are allowed, what the target owes, and the faults of a step (01, "Numbers of the refusals", 8, 9, 15 to 18; 02, Job 2,
+-- Job 7, 27, and Job 13, 33).
 use Prim.Native.Nat.{ℕ, zero, suc}
 use mathlib.Core.Bool.{Bool, true, false, not, _&&_, _||_}
 use mathlib.Core.List.{List, [], _∷_}
 use lib.ListN.{length}
 use lib.Dec.{ltb, leb, eqb}
 use Rattle.records.specs.Base.{pick, all}
-use Rattle.records.specs.Room.{Constraint, ban, fence, spread, latency, has, vmsOf, Room, nodeOf, vmOf, nowhere, onNode}
+use Rattle.records.specs.Room.{Constraint, ban, fence, spread, latency, before, has, vmsOf, Room, nodeOf, vmOf, nowhere, onNode}
 use Rattle.records.specs.Plan.{Move, Step}
 use Rattle.records.specs.declared.plan.Source.{Source}
 use Rattle.records.specs.declared.plan.Source.the-variants.{Unnamed, Named}
-use Rattle.rules.specs.Moments.{Placement, placeOf, targetOf, within, bearsAt, tallyAt, firstMoment, atRest, allRunning}
+use Rattle.rules.specs.Moments.{Placement, placeOf, targetOf, atTarget, within, bearsAt, tallyAt, firstMoment, atRest, allRunning}
 use Rattle.rules.specs.Orders.{some, meetsMate}
 use Rattle.rules.specs.declared.faults.TargetFault.{TargetFault}
 use Rattle.rules.specs.declared.faults.TargetFault.the-variants.{Overfull, Broken}
 use Rattle.rules.specs.declared.faults.TargetCheck.{TargetCheck}
 use Rattle.rules.specs.declared.faults.TargetCheck.the-variants.{Good, Bad}
 use Rattle.rules.specs.declared.faults.StepFault.{StepFault}
-use Rattle.rules.specs.declared.faults.StepFault.the-variants.{Misnamed, Elsewhere, Forbidden, Misfit, Mate}
+use Rattle.rules.specs.declared.faults.StepFault.the-variants.{Misnamed, Elsewhere, Forbidden, Misfit, Mate, Early}
 use Rattle.rules.specs.declared.faults.StepCheck.{StepCheck}
 use Rattle.rules.specs.declared.faults.StepCheck.the-variants.{Clear, Faulty}
 
@@ -29,6 +29,7 @@ keepsFrom (ban vms nodes) d = has nodes d
 keepsFrom (fence vms nodes) d = not (has nodes d)
 keepsFrom (spread vms) d = false
 keepsFrom (latency vms groups) d = false
+keepsFrom (before first second) d = false
 
 -- VM v may go to d: d is no node, or no constraint that names v keeps it from d
 unfoldable pub allowed : Room → ℕ → ℕ → Bool
@@ -55,13 +56,15 @@ unfoldable pub onNodes : Placement → List ℕ → List ℕ
 onNodes places [] = []
 onNodes places (v ∷ vs) = pick (onNode (placeOf places v)) (v ∷ onNodes places vs) (onNodes places vs)
 
--- 9: a placement keeps a constraint. Its list is read without the VMs on no node, of which nothing is asked (02, Job 2)
+-- 9: a placement keeps a constraint. Its list is read without the VMs on no node, of which nothing is asked (02, Job 2). That one VM comes before
+-- another binds the steps, and no placement (02, Job 13)
 unfoldable pub keeps : Placement → Constraint → Bool
 keeps places (ban vms nodes) = all (λ v. not (has nodes (placeOf places v))) (onNodes places vms)
 keeps places (fence vms nodes) = all (λ v. has nodes (placeOf places v)) (onNodes places vms)
 keeps places (spread vms) = spreadOut places (onNodes places vms)
 keeps places (latency vms groups) =
     eqb (length (onNodes places vms)) 0 || some (λ g. all (λ v. has g (placeOf places v)) (onNodes places vms)) groups
+keeps places (before first second) = true
 
 -- the target's fault
 unfoldable pub targetCheck : Room → TargetCheck
@@ -107,6 +110,34 @@ unfoldable pub unmet : Room → Placement → Step → Bool
 unmet room places step =
     all (λ move. not (meetsMate room (allRunning (firstMoment room places step)) (move .vm) (move .to))) step
 
+-- a step has a move of VM v
+unfoldable pub hasMove : Step → ℕ → Bool
+hasMove step v = some (λ move. eqb (move .vm) v) step
+
+-- a step respects a constraint: it moves the second of two VMs only if the first is on its target when the step starts and has no move in the
+-- step, wherever the second goes, a launch or a shutdown too (02, Job 13)
+unfoldable pub respects : Room → Placement → Step → Constraint → Bool
+respects room places step (ban vms nodes) = true
+respects room places step (fence vms nodes) = true
+respects room places step (spread vms) = true
+respects room places step (latency vms groups) = true
+respects room places step (before first second) = pick (hasMove step second) (atTarget room places first && not (hasMove step first)) true
+
+-- 33: nobody moves before its turn
+unfoldable pub inTurn : Room → Placement → Step → Bool
+inTurn room places step = all (respects room places step) (room .constraints)
+
+-- VM v waits for VM u: a constraint has u before v
+unfoldable pub puts : ℕ → ℕ → Constraint → Bool
+puts u v (ban vms nodes) = false
+puts u v (fence vms nodes) = false
+puts u v (spread vms) = false
+puts u v (latency vms groups) = false
+puts u v (before first second) = eqb first u && eqb second v
+
+unfoldable pub waitsFor : Room → ℕ → ℕ → Bool
+waitsFor room v u = some (puts u v) (room .constraints)
+
 -- the first fault of a step in checking order
 unfoldable pub stepCheck : Room → Placement → Step → StepCheck
 stepCheck room places step =
@@ -115,9 +146,11 @@ stepCheck room places step =
     (pick (not (permitted room step)) (Faulty Forbidden)
     (pick (not (fitting room places step)) (Faulty Misfit)
     (pick (not (unmet room places step)) (Faulty Mate)
-    Clear))))
+    (pick (not (inTurn room places step)) (Faulty Early)
+    Clear)))))
 
--- a step is sound: it has none of the faults 15 to 18. A source that is named wrongly does not make it unsound. (Promises has the same over
+-- a step is sound: it has none of the faults 15 to 18 and 33. A source that is named wrongly does not make it unsound. (Promises has the same over
 -- every order of the step, and the two agree: Laws.Runs, sound-orders.)
 unfoldable pub soundStep : Room → Placement → Step → Bool
-soundStep room places step = named room places 0 step && (permitted room step && (fitting room places step && unmet room places step))
+soundStep room places step =
+    named room places 0 step && (permitted room step && (fitting room places step && (unmet room places step && inTurn room places step)))

@@ -1,4 +1,4 @@
--- The verdict on a plan: the whole checking order, the numbers of the refusals, and the packing (01, "Numbers of the refusals"; 02, Jobs 5 and 7).
+-- The verdict on a plan: the whole checking order, the numbers of the refusals, and the packing (01, "Numbers of the refusals"; 02, Jobs 5, 7 and 13).
 use Prim.Native.Nat.{ℕ, zero, suc, _+_, _*_, _^_}
 use mathlib.Core.Bool.{Bool, true, false, not, _&&_}
 use mathlib.Core.List.{List, [], _∷_}
@@ -9,7 +9,7 @@ use Rattle.records.specs.Room.{Room, mostReserve, roomAt, clusterCheck, cluster
 use Rattle.records.specs.Plan.{Step, stepsOf, planCheck, planNumber}
 use Rattle.records.specs.declared.faults.ClusterCheck.{ClusterCheck}
 use Rattle.records.specs.declared.faults.PlanCheck.{PlanCheck}
-use Rattle.rules.specs.Moments.{Placement, placeOf, currentOf, targetOf, after}
+use Rattle.rules.specs.Moments.{Placement, currentOf, atTarget, after}
 use Rattle.rules.specs.Rules.{from, targetCheck, stepCheck}
 use Rattle.rules.specs.Cost.{costOf}
 use Rattle.rules.specs.declared.faults.TargetFault.{TargetFault}
@@ -23,7 +23,7 @@ use Rattle.rules.specs.declared.faults.Verdict.the-variants.{Accepted, R
 
 -- every VM is on its target
 unfoldable pub home : Room → Placement → Bool
-home room places = all (λ v. eqb (placeOf places v) (placeOf (targetOf room) v)) (from 0 (length (room .vms)))
+home room places = all (λ v. atTarget room places v) (from 0 (length (room .vms)))
 
 -- what each check says, and what follows if it finds nothing
 unfoldable pub onReserve : ℕ → Verdict → Verdict
@@ -76,6 +76,7 @@ stepNumber StepFault.Elsewhere = 27
 stepNumber StepFault.Forbidden = 16
 stepNumber StepFault.Misfit = 17
 stepNumber StepFault.Mate = 18
+stepNumber StepFault.Early = 33
 
 abbrev pub faultNumber : Fault → ℕ
 faultNumber Reserve = 23

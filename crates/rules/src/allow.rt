@@ -76,6 +76,7 @@ fn apply(p: &[u8], table: &mut AllowTable)
         }
         Kind::Spread => {}
         Kind::Latency => {}
+        Kind::Before => {}
     }
 }
 

@@ -21,6 +21,7 @@ pub enum StepFault {
     Forbidden,
     Misfit,
     Mate,
+    Early,
 }
 
 // Clear: none of the faults, 27 included.
@@ -62,6 +63,7 @@ fn step_number(f: StepFault) -> u64
         StepFault::Forbidden => 16,
         StepFault::Misfit => 17,
         StepFault::Mate => 18,
+        StepFault::Early => 33,
     }
 }
 

@@ -1,6 +1,7 @@
 // The rules of a migration: what may happen in a step, and the verdict on a plan.
 mod allow;
 mod arrays;
+mod bound;
 mod cost;
 mod faults;
 pub mod packing;
@@ -8,6 +9,7 @@ mod places;
 mod spread;
 mod step;
 mod tally;
+mod turn;
 mod verdict;
 mod wanted;
 

@@ -12,10 +12,8 @@ use records::Kind;
 ghost use mathlib.Core.Path.{_≡_};
 ghost use mathlib.Core.Bool.{true};
 ghost use Prim.Native.Nat.{_<_, _≤_};
-ghost use Rattle.records.specs.Base.{all};
-ghost use Rattle.records.specs.Room.{vmsOf, constraintOf, roomOf, filled, clusterCheck};
+ghost use Rattle.records.specs.Room.{vmsOf, constraintOf, filled};
 ghost use Rattle.records.specs.Inner.{Below};
-ghost use Rattle.records.specs.declared.faults.ClusterCheck.{ClusterCheck};
 ghost use Rattle.rules.specs.Inner.{startMarks, goUnmet, listUnmet, spreadOk};
 
 // Marks where the VMs start.
@@ -63,7 +61,7 @@ fn list_unmet(vms: &[u8], places: &Placement, dests: &Destinations) -> bool
 }
 
 // The same of a constraint: only a spread has mates.
-fn part_unmet(p: &[u8], places: &Placement, dests: &Destinations) -> bool
+pub fn part_unmet(p: &[u8], places: &Placement, dests: &Destinations) -> bool
     requires { ⌜ filled (now p) ≡ true ⌝ }
     ensures { λ r. ⌜ r ≡ spreadOk (now (places .entry)) (now (dests .entry)) (constraintOf (now (p .entry))) ⌝ }
 {
@@ -73,23 +71,6 @@ fn part_unmet(p: &[u8], places: &Placement, dests: &Destinations) -> bool
         Kind::Ban => true,
         Kind::Fence => true,
         Kind::Latency => true,
+        Kind::Before => true,
     }
-}
-
-// The same of all constraints.
-pub fn mates_unmet(cluster: &[u8], places: &Placement, dests: &Destinations) -> bool
-    requires { ⌜ clusterCheck (now cluster) ≡ ClusterCheck.Whole ⌝ }
-    ensures { λ r. ⌜ r ≡ all (spreadOk (now (places .entry)) (now (dests .entry))) (roomOf (now (cluster .entry)) .constraints) ⌝ }
-{
-    let mut at = records::first_constraint(cluster);
-    let mut left = records::constraint_count(cluster);
-    while 0 < left {
-        let p = records::part(cluster, at);
-        if !part_unmet(p, places, dests) {
-            return false;
-        }
-        at += p.len();
-        left -= 1;
-    }
-    true
 }

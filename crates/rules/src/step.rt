@@ -1,16 +1,16 @@
-// A step against a placement: refusals 15, 27, 16, 17 and 18.
+// A step against a placement: refusals 15, 27, 16, 17, 18 and 33.
 use crate::arrays::AllowTable;
 use crate::arrays::Destinations;
 use crate::arrays::NODES;
 use crate::arrays::PLACES;
 use crate::arrays::Placement;
 use crate::arrays::Sums;
+use crate::bound::bound_check;
 use crate::faults::StepCheck;
 use crate::faults::StepFault;
 use crate::places::destinations;
 use crate::places::place_at;
 use crate::places::wide;
-use crate::spread::mates_unmet;
 use crate::tally::Tally;
 use crate::tally::bears_vm;
 use crate::tally::need_of;
@@ -170,7 +170,7 @@ pub fn moves_allowed(cluster: &[u8], plan: &[u8], at: usize, table: &AllowTable)
     true
 }
 
-// 17 and 18, of a step that is well named and allowed.
+// 17, 18 and 33, of a step that is well named and allowed.
 fn running_check(
     reserve: u64,
     cluster: &[u8],
@@ -186,10 +186,7 @@ fn running_check(
     if !fits_running(reserve, cluster, plan, at, sums) {
         return StepCheck::Faulty(StepFault::Misfit);
     }
-    if !mates_unmet(cluster, places, &dests) {
-        return StepCheck::Faulty(StepFault::Mate);
-    }
-    StepCheck::Clear
+    bound_check(cluster, places, &dests)
 }
 
 // The first fault of the step at a place of the plan, from a placement copied for it.

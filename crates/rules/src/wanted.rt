@@ -118,6 +118,7 @@ fn part_kept(p: &[u8], places: &Placement) -> bool
             }
             groups_hold(p, vms, places)
         }
+        Kind::Before => true,
     }
 }
 

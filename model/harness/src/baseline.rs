@@ -2,7 +2,8 @@
 //!
 //! It reads the lent bytes in place and keeps a mask of open nodes for each VM, a mask of VMs for
 //! each spread, and for each node its sums and a mask of the VMs on it. Of VMs on no node nothing is
-//! kept but that they are.
+//! kept but that they are. If some VM waits for another, there is a mask for each VM of those it waits
+//! for, and one of those at home.
 
 const ACCEPTED: u64 = 0;
 const REFUSED: u64 = 2 << 62;
@@ -46,6 +47,8 @@ struct Room {
     target: [u8; 256],
     open: [u64; 256],
     spreads: Vec<VmMask>,
+    /// For each VM those it waits for; empty if nobody waits.
+    firsts: Vec<VmMask>,
     /// Whether the record may have VMs on no node.
     down: bool,
 }
@@ -125,6 +128,7 @@ fn empty_room(n: usize, v: usize, down: bool) -> Room {
         target: [0; 256],
         open: [u64::MAX; 256],
         spreads: Vec::new(),
+        firsts: Vec::new(),
         down,
     }
 }
@@ -177,6 +181,9 @@ fn read_constraints(room: &mut Room, mut rest: &[u8]) -> Option<bool> {
 
 fn read_constraint(room: &mut Room, body: &[u8]) -> Option<bool> {
     let (&kind, mut rest) = body.split_first()?;
+    if kind == 5 {
+        return read_before(room, rest);
+    }
     if !(1..=4).contains(&kind) {
         return None;
     }
@@ -228,6 +235,19 @@ fn read_spread(room: &mut Room, vms: &[u8]) -> bool {
     }
     let on_nodes = vms.iter().filter(|&&vm| room.target[usize::from(vm)] != NOWHERE).count();
     targets(room, vms).count_ones() as usize == on_nodes
+}
+
+/// Keeps who waits for whom for the steps; the target keeps it always.
+fn read_before(room: &mut Room, pair: &[u8]) -> Option<bool> {
+    let &[first, second] = pair else { return None };
+    if usize::from(first) >= room.v || usize::from(second) >= room.v || first == second {
+        return None;
+    }
+    if room.firsts.is_empty() {
+        room.firsts = vec![VmMask::default(); room.v];
+    }
+    put_in(&mut room.firsts[usize::from(second)], first);
+    Some(true)
 }
 
 /// The targets of some VMs, as a mask of nodes.
@@ -348,11 +368,13 @@ fn steps_fill<const WIDTH: usize>(mut rest: &[u8], steps: usize) -> bool {
 
 // DOWN is whether some VM may be on no node, so that rooms without any need not ask.
 
-/// Where VMs are between steps: each VM's place, and what is on each node.
+/// Where VMs are between steps: each VM's place, what is on each node, and if some VM waits those at
+/// home.
 struct Here {
     place: [u8; 256],
     sums: Sums,
     vms_on: [VmMask; 64],
+    home: VmMask,
 }
 
 fn start(room: &Room) -> Here {
@@ -362,7 +384,25 @@ fn start(room: &Room) -> Here {
             put_in(&mut vms_on[usize::from(place)], vm as u8);
         }
     }
-    Here { place: room.current, sums: Sums::of(room, &room.current), vms_on }
+    let mut here = Here {
+        place: room.current,
+        sums: Sums::of(room, &room.current),
+        vms_on,
+        home: VmMask::default(),
+    };
+    if !room.firsts.is_empty() {
+        (0..room.v).for_each(|vm| note_home(room, &mut here, vm as u8));
+    }
+    here
+}
+
+/// Notes whether a VM is at home.
+fn note_home(room: &Room, here: &mut Here, vm: u8) {
+    if here.place[usize::from(vm)] == room.target[usize::from(vm)] {
+        put_in(&mut here.home, vm);
+    } else {
+        take_out(&mut here.home, vm);
+    }
 }
 
 fn run_any<const WIDTH: usize>(room: &Room, steps: &[u8]) -> Result<u64, Fault> {
@@ -407,6 +447,9 @@ fn end<const DOWN: bool>(room: &Room, here: &mut Here, vm: u8, to: u8) {
         here.sums.take(room, usize::from(vm), from);
         take_out(&mut here.vms_on[usize::from(from)], vm);
     }
+    if !room.firsts.is_empty() {
+        note_home(room, here, vm);
+    }
 }
 
 /// The fault of a step, or 0. Counts the arrivals on their destinations; those who leave are
@@ -434,7 +477,21 @@ fn step_fault<const WIDTH: usize, const DOWN: bool>(
     if each().any(|(vm, to)| meets_mate(room, &mut here.vms_on[usize::from(to)], vm)) {
         return 18;
     }
+    if !room.firsts.is_empty() && comes_too_soon(room, here.home, || all.clone().map(|m| m.0)) {
+        return 33;
+    }
     0
+}
+
+/// Whether some VM of a step waits for one that is not at home, or is in the step too.
+fn comes_too_soon<I: Iterator<Item = u8>>(
+    room: &Room,
+    mut ready: VmMask,
+    moved: impl Fn() -> I,
+) -> bool {
+    moved().for_each(|vm| take_out(&mut ready, vm));
+    let not_ready = ready.map(|vms| !vms);
+    moved().any(|vm| meet(&room.firsts[usize::from(vm)], &not_ready))
 }
 
 fn well_named<const WIDTH: usize, const DOWN: bool>(

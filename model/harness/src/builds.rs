@@ -85,6 +85,7 @@ impl Report {
             self.reserves.count_build(stream, reserve, cluster, &expected, &by_model(0));
         } else if let Some(made) = self.builds.count(stream, cluster, &expected) {
             self.idle.built.count(stream, &made);
+            self.befores.count_built(stream, made);
         }
         let (mut result, kept) = built_watched(reserve, cluster, &before);
         if kept && result == expected {

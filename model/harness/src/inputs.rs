@@ -51,6 +51,9 @@ pub fn all() -> Vec<Input> {
         launches_and_shutdowns(),
         wide_launches(),
         idle_arrivals(),
+        befores(),
+        befores_too_soon(),
+        wide_befores(),
         small_room(),
     ]
 }
@@ -219,7 +222,7 @@ fn bans_and_fences() -> Vec<Constraint> {
     (0..CONSTRAINTS / 2).flat_map(|i| [ban.clone(), fence(i)]).collect()
 }
 
-/// 32 constraints of each kind: half the homes are closed to the VMs of the other half.
+/// 32 each of spread, ban, fence and latency: half the homes are closed to the VMs of the other half.
 pub fn mixed() -> Input {
     let half = HOMES / 2;
     let (low, high): (Vec<usize>, Vec<usize>) = all_vms().iter().partition(|&vm| vm % HOMES < half);
@@ -333,6 +336,46 @@ pub fn idle_arrivals() -> Input {
     };
     let steps = (1..=7).flat_map(|round| pairs(active, round)).chain(pairs(0, 8)).collect();
     input("idle arrivals", (room, steps), None)
+}
+
+// ---------------------------------------------------------------- VMs that wait for others
+
+/// VM 128 waits for VM 0, VM 129 for VM 1, and so on.
+fn halves() -> Vec<Constraint> {
+    let before = |first| Constraint::Before { first, second: CONSTRAINTS + first };
+    (0..CONSTRAINTS).map(before).collect()
+}
+
+/// 512 steps of 2 moves: the first 128 VMs go four times on by 5 nodes, then the 128 that wait for them.
+pub fn befores() -> Input {
+    input("befores", in_turn(), None)
+}
+
+/// The same, but in the last step VM 127 leaves its home, and VM 255 waits for it.
+pub fn befores_too_soon() -> Input {
+    let (room, mut steps) = in_turn();
+    if let Some(step) = steps.last_mut() {
+        step[0] = Move::bare(127, stop(127, 0, NODES));
+    }
+    input("befores, too soon", (room, steps), Some((33, LAST)))
+}
+
+fn in_turn() -> (Room, Vec<Step>) {
+    let room = full_room(NODES, |vm| (stop(vm, 0, NODES), stop(vm, 4, NODES)), halves());
+    let step = |i: usize| {
+        let (half, round, vm) = (i / 256, 1 + i / 64 % 4, i % 64);
+        [vm, vm + 64].map(|vm| vm + 128 * half).map(|vm| Move::bare(vm, stop(vm, round, NODES)))
+    };
+    (room, (0..512).map(|i| step(i).to_vec()).collect())
+}
+
+/// 8 steps of 128 moves: those who wait go on by 5 nodes at once, and those they wait for are home.
+pub fn wide_befores() -> Input {
+    let last = |vm: usize| if vm < CONSTRAINTS { 0 } else { 8 };
+    let places = |vm| (stop(vm, 0, NODES), stop(vm, last(vm), NODES));
+    let step = |round| (128..VMS).map(|vm| Move::bare(vm, stop(vm, round, NODES))).collect();
+    let steps = (1..=8).map(step).collect();
+    input("wide steps, befores", (full_room(NODES, places, halves()), steps), None)
 }
 
 // ---------------------------------------------------------------- the small room

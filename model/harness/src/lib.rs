@@ -4,7 +4,9 @@
 //! write into lent bytes, or beside them, shows.
 
 pub mod baseline;
+mod befores;
 pub mod builds;
+mod damaged;
 pub mod empties;
 mod idle;
 pub mod inputs;
@@ -21,14 +23,14 @@ mod told;
 
 mod c {
     extern "C" {
-        pub fn kobdrieft_check_v6(
+        pub fn kobdrieft_check_v7(
             reserve: u64,
             cluster: *const u8,
             cluster_len: usize,
             plan: *const u8,
             plan_len: usize,
         ) -> u64;
-        pub fn kobdrieft_build_v6(
+        pub fn kobdrieft_build_v7(
             reserve: u64,
             cluster: *const u8,
             cluster_len: usize,
@@ -43,14 +45,14 @@ pub fn check(reserve: u64, cluster: &[u8], plan: &[u8]) -> u64 {
     let (bytes, length) = (cluster.as_ptr(), cluster.len());
     // SAFETY: each pointer can be read for the length beside it. An empty slice has a pointer
     // that is not null, and no byte of it is read.
-    unsafe { c::kobdrieft_check_v6(reserve, bytes, length, plan.as_ptr(), plan.len()) }
+    unsafe { c::kobdrieft_check_v7(reserve, bytes, length, plan.as_ptr(), plan.len()) }
 }
 
 /// Builds a plan for a cluster at a reserve, at the front of `out`; the packed answer.
 pub fn build(reserve: u64, cluster: &[u8], out: &mut [u8]) -> u64 {
     let (bytes, length) = (cluster.as_ptr(), cluster.len());
     // SAFETY: as in `check`, and `out` can be written for its length and overlaps nothing.
-    unsafe { c::kobdrieft_build_v6(reserve, bytes, length, out.as_mut_ptr(), out.len()) }
+    unsafe { c::kobdrieft_build_v7(reserve, bytes, length, out.as_mut_ptr(), out.len()) }
 }
 
 /// How many guard bytes stand on either side. An odd number also lends odd addresses.
@@ -100,12 +102,12 @@ impl Lent {
 pub fn check_lent(reserve: u64, cluster: &mut Lent, plan: &mut Lent) -> u64 {
     let (bytes, length) = (cluster.pointer(), cluster.len());
     // SAFETY: both pointers stay within their vectors for the length beside them.
-    unsafe { c::kobdrieft_check_v6(reserve, bytes, length, plan.pointer(), plan.len()) }
+    unsafe { c::kobdrieft_check_v7(reserve, bytes, length, plan.pointer(), plan.len()) }
 }
 
 /// As `build`, over watched bytes.
 pub fn build_lent(reserve: u64, cluster: &mut Lent, out: &mut Lent) -> u64 {
     let (bytes, length) = (cluster.pointer(), cluster.len());
     // SAFETY: as in `check_lent`; the two vectors are apart.
-    unsafe { c::kobdrieft_build_v6(reserve, bytes, length, out.pointer(), out.len()) }
+    unsafe { c::kobdrieft_build_v7(reserve, bytes, length, out.pointer(), out.len()) }
 }

@@ -1,6 +1,7 @@
 //! Clusters of version 2 and VMs on no node: what came of such clusters, and what there is to tell
 //! of launches, shutdowns and VMs that stay down among the inputs of `check`.
 
+use crate::damaged::Damaged;
 use crate::report::{missing, outcome, print_kinds, Counts, Kind, Stream};
 use crate::seen::Seen;
 use crate::told::{Table, Told};
@@ -8,7 +9,7 @@ use kobdrieft_model::rules::{allows, mates, meets_mate, misfits, Book, Placement
 use kobdrieft_model::{on_a_node, parse_cluster, Constraint, Move, Version, NOWHERE};
 
 /// What can come of a plan for a cluster of version 2.
-const KINDS: [Kind; 10] = [
+const KINDS: [Kind; 11] = [
     ("accepted", 0..=0),
     ("3 to 7", 3..=7),
     ("8 and 9", 8..=9),
@@ -17,6 +18,7 @@ const KINDS: [Kind; 10] = [
     ("16", 16..=16),
     ("17", 17..=17),
     ("18", 18..=18),
+    ("33", 33..=33),
     ("19", 19..=19),
     ("27", 27..=27),
 ];
@@ -191,19 +193,6 @@ fn fences(constraint: &Constraint, vm: usize) -> bool {
     matches!(constraint, Constraint::Fence { vms, .. } if vms.contains(&vm))
 }
 
-/// A cluster record that cannot be read, and its number.
-struct Damaged {
-    number: usize,
-    cluster: Vec<u8>,
-}
-
-impl Damaged {
-    /// Whether it has this number and this version.
-    fn is(&self, number: usize, version: u8) -> bool {
-        self.number == number && self.cluster[0] == version
-    }
-}
-
 const DAMAGES: [Told<Damaged>; 7] = [
     ("2, version 0", |d| d.is(2, 0)),
     ("2, version 3", |d| d.is(2, 3)),
@@ -213,25 +202,17 @@ const DAMAGES: [Told<Damaged>; 7] = [
         d.is(6, 1) && parse_cluster(&two) != Err(6)
     }),
     ("6 in cluster 2", |d| d.is(6, 2)),
-    ("7, node 255 in cluster 1", |d| d.is(7, 1) && lists_255(&d.cluster)),
-    ("7, node 255 in cluster 2", |d| d.is(7, 2) && lists_255(&d.cluster)),
+    ("7, node 255 in cluster 1", |d| d.is(7, 1) && d.has_body(lists_255)),
+    ("7, node 255 in cluster 2", |d| d.is(7, 2) && d.has_body(lists_255)),
 ];
 
-/// Whether some node list has 255 in it. It would stand last, as lists rise.
-fn lists_255(cluster: &[u8]) -> bool {
-    let count = |at: usize| usize::from(cluster[at]) * 256 + usize::from(cluster[at + 1]);
-    let mut at = 11 + 5 * count(5) + 7 * count(7);
-    let mut found = false;
-    while at < cluster.len() {
-        let end = at + 2 + count(at);
-        found |= body_lists_255(&cluster[at + 2..end]).is_some();
-        at = end;
-    }
-    found
+/// Whether a node list of this constraint has 255 in it. It would stand last, as lists rise.
+fn lists_255(body: &[u8]) -> bool {
+    matches!(body, [1 | 2 | 4, ..]) && ends_with_255(body).is_some()
 }
 
 /// `Some` if a node list of this constraint ends with 255.
-fn body_lists_255(body: &[u8]) -> Option<()> {
+fn ends_with_255(body: &[u8]) -> Option<()> {
     let vms = usize::from(*body.get(1)?) * 256 + usize::from(*body.get(2)?);
     let mut rest = body.get(3 + vms..)?;
     if body[0] == 4 {
@@ -250,7 +231,7 @@ fn body_lists_255(body: &[u8]) -> Option<()> {
 pub(crate) struct Nowhere {
     checks: Counts,
     told: Table<Seen>,
-    damages: Table<Damaged>,
+    pub(crate) damages: Table<Damaged>,
 }
 
 impl Default for Nowhere {
@@ -272,9 +253,6 @@ impl Nowhere {
         let number = outcome(verdict);
         if number != 1 && cluster[0] == 2 {
             self.checks[number][stream as usize] += 1;
-        }
-        if matches!(number, 2 | 6 | 7) {
-            self.damages.count(stream, &Damaged { number, cluster: cluster.to_vec() });
         }
         seen.into_iter().for_each(|seen| self.told.count(stream, seen));
     }

@@ -1,5 +1,7 @@
 //! Compares the library with the model, input by input, and keeps count of the outcomes.
+use crate::befores::Befores;
 use crate::builds::Builds;
+use crate::damaged::Damaged;
 use crate::empties::Empties;
 use crate::idle::Idle;
 use crate::nowhere::Nowhere;
@@ -10,7 +12,7 @@ use crate::{check, check_lent, Lent};
 use kobdrieft_model as model;
 use kobdrieft_model::gen::Origin;
 use std::fmt::Display;
-use std::ops::RangeInclusive;
+use std::ops::{Deref, DerefMut, RangeInclusive};
 
 /// Where an input comes from.
 #[derive(Clone, Copy)]
@@ -25,10 +27,30 @@ pub enum Stream {
 pub(crate) type Row = [u64; 4];
 
 /// How often each outcome came, by stream. Outcome 0 is accepted or plan, the others are refusals.
-pub(crate) type Counts = [Row; BLOCKED + 1];
+pub(crate) struct Counts([Row; BLOCKED + 1]);
+
+impl Default for Counts {
+    fn default() -> Counts {
+        Counts([Row::default(); BLOCKED + 1])
+    }
+}
+
+impl Deref for Counts {
+    type Target = [Row];
+
+    fn deref(&self) -> &[Row] {
+        &self.0
+    }
+}
+
+impl DerefMut for Counts {
+    fn deref_mut(&mut self) -> &mut [Row] {
+        &mut self.0
+    }
+}
 
 /// The outcome behind all numbers.
-pub(crate) const BLOCKED: usize = 28;
+pub(crate) const BLOCKED: usize = 34;
 
 #[derive(Default)]
 pub struct Report {
@@ -38,6 +60,7 @@ pub struct Report {
     sources: Sources,
     nowhere: Nowhere,
     pub(crate) idle: Idle,
+    pub(crate) befores: Befores,
     pub(crate) empties: Empties,
     pub(crate) builds: Builds,
     pub(crate) reserves: Reserves,
@@ -87,7 +110,14 @@ impl Report {
         self.sources.count(stream, cluster, plan, expected, origin);
         let seen = Seen::of(0, cluster, plan, expected);
         self.nowhere.count(stream, cluster, expected, seen.as_ref());
-        seen.iter().for_each(|seen| self.idle.checked.count(stream, seen));
+        if let Some(seen) = seen {
+            self.idle.checked.count(stream, &seen);
+            self.befores.checked.count(stream, &seen);
+        }
+        if let Some(damaged) = Damaged::of(cluster, expected) {
+            self.nowhere.damages.count(stream, &damaged);
+            self.befores.damages.count(stream, &damaged);
+        }
         if plan.is_empty() {
             self.empties.count_file(stream, expected);
         }
@@ -105,11 +135,12 @@ impl Report {
 
     /// Fails once for each outcome that the generated inputs never had.
     pub fn expect_every_outcome(&mut self) {
-        let checks = missing(&self.checks, "check", (0..=9).chain(11..=19).chain([27]));
+        let checks = missing(&self.checks, "check", (0..=9).chain(11..=19).chain([27, 33]));
         let (sources, empties) = (self.sources.missing(), self.empties.missing());
         let (nowhere, builds) = (self.nowhere.missing(), self.builds.missing());
-        let (idle, reserves) = (self.idle.missing(), self.reserves.missing());
-        for name in [checks, sources, nowhere, empties, builds, idle, reserves].concat() {
+        let (idle, befores) = (self.idle.missing(), self.befores.missing());
+        let lists = [checks, sources, nowhere, empties, builds, idle, befores];
+        for name in lists.concat().into_iter().chain(self.reserves.missing()) {
             println!("never generated: {name}");
             self.failed += 1;
         }
@@ -124,6 +155,7 @@ impl Report {
         self.empties.print();
         self.builds.print();
         self.idle.print();
+        self.befores.print();
         self.reserves.print();
         self.sources.print_origins();
         println!("{} passed, {} failed", self.passed, self.failed);

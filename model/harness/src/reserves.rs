@@ -1,8 +1,10 @@
 //! Inputs at a reserve: what came of them, and what there is to tell by what the same input comes to with
 //! no reserve. A node is called over here if it is over what is usable of it, but within its capacity.
 
+use crate::befores::{Cause, Kind as Does};
 use crate::builds::Built;
 use crate::check;
+use crate::damaged::Damaged;
 use crate::report::{
     hex, missing, never_generated, outcome, print_kinds, print_row, verdict_words,
 };
@@ -14,7 +16,7 @@ use kobdrieft_model::rules::{cpu_within, memory_within, within, Placement, Sum};
 use kobdrieft_model::{self as model, on_a_node, parse_cluster, Move, Room, Step};
 
 /// What can come of a plan at a reserve.
-const CHECKED: [Kind; 12] = [
+const CHECKED: [Kind; 13] = [
     ("accepted", 0..=0),
     ("1 to 7", 1..=7),
     ("8", 8..=8),
@@ -24,6 +26,7 @@ const CHECKED: [Kind; 12] = [
     ("16", 16..=16),
     ("17", 17..=17),
     ("18", 18..=18),
+    ("33", 33..=33),
     ("19", 19..=19),
     ("23", 23..=23),
     ("27", 27..=27),
@@ -65,7 +68,7 @@ impl Pair {
     }
 }
 
-const PAIRS: [Told<Pair>; 20] = [
+const PAIRS: [Told<Pair>; 21] = [
     ("23 at 91", |p| p.reserve == 91),
     ("23 at 100", |p| p.reserve == 100),
     ("23 at 255", |p| p.reserve == 255),
@@ -79,6 +82,7 @@ const PAIRS: [Told<Pair>; 20] = [
     ("check 23 before 8 and 9", |p| p.check_23(&[8, 9])),
     ("check 23 before 11 to 14", |p| p.check_23(&[11, 12, 13, 14])),
     ("check 23 before 15 to 18, 27", |p| p.check_23(&[15, 16, 17, 18, 27])),
+    ("check 23 before 33", |p| p.check_23(&[33])),
     ("check 23 before 19", |p| p.check_23(&[19])),
     ("build 23, else plan", |p| p.build_23(&[0])),
     ("build 23, else blocked", |p| p.build_23(&[BLOCKED])),
@@ -198,7 +202,7 @@ impl Checked {
     }
 }
 
-const TOLD: [Told<Checked>; 15] = [
+const TOLD: [Told<Checked>; 25] = [
     ("8 by the reserve, memory", |c| c.target(Measure::Memory, Load::is_over)),
     ("8 by the reserve, CPU", |c| c.target(Measure::Cpu, Load::is_over)),
     ("8, memory one over usable", |c| c.target(Measure::Memory, |load| load.is_by(1))),
@@ -214,7 +218,19 @@ const TOLD: [Told<Checked>; 15] = [
     ("accepted, over by memory", |c| c.starts_over(|(memory, _)| memory)),
     ("accepted, over by CPU", |c| c.starts_over(|(_, cpu)| cpu)),
     ("accepted, idle onto over", Checked::entered),
+    ("reserve, second waited", |c| c.seen.waited(|_| true)),
+    ("reserve, 33, first not home", |c| c.seen.by(Cause::NotHome)),
+    ("reserve, 33, first comes home", |c| c.seen.by(Cause::ComesHome)),
+    ("reserve, 33, first elsewhere", |c| c.seen.by(Cause::GoesElsewhere)),
+    ("reserve, 33, first leaves", |c| c.seen.by(Cause::Leaves)),
+    ("reserve, 33, second pivots", |c| c.seen.at(Does::Pivot)),
+    ("reserve, 33, second launched", |c| c.seen.at(Does::Launch)),
+    ("reserve, 33, second shut down", |c| c.seen.at(Does::Shutdown)),
+    ("17 by the reserve before 33", |c| c.seen.number == 17 && c.without == 33),
+    ("8 by the reserve before 33", |c| c.seen.number == 8 && c.without == 33),
 ];
+
+const DAMAGES: [Told<Damaged>; 1] = [("reserve, 7, a bad before", Damaged::has_bad_before)];
 
 // ---------------------------------------------------------------- build
 
@@ -243,7 +259,7 @@ impl Planned {
     }
 }
 
-const TOLD_BUILT: [Told<Planned>; 6] = [
+const TOLD_BUILT: [Told<Planned>; 8] = [
     ("plan, other steps than at 0", |p| {
         p.made.planned && p.else_planned(|without| without.steps() != p.made.steps())
     }),
@@ -256,6 +272,10 @@ const TOLD_BUILT: [Told<Planned>; 6] = [
     ("blocked late by the reserve", |p| {
         !p.made.planned && !p.made.steps().is_empty() && p.else_planned(|_| true)
     }),
+    ("reserve, plan, second waits", |p| p.made.waits(|_, _| true)),
+    ("reserve, blocked by waiting", |p| {
+        !p.made.planned && p.made.without_befores().is_some_and(|without| without.planned)
+    }),
 ];
 
 // ---------------------------------------------------------------- counts
@@ -266,6 +286,7 @@ pub(crate) struct Reserves {
     builds: Counts,
     pairs: Table<Pair>,
     told: Table<Checked>,
+    damages: Table<Damaged>,
     told_built: Table<Planned>,
     below: Row,
 }
@@ -278,6 +299,7 @@ impl Default for Reserves {
             builds: Counts::default(),
             pairs: Table::of(&PAIRS),
             told: Table::of(&TOLD),
+            damages: Table::of(&DAMAGES),
             told_built: Table::of(&TOLD_BUILT),
             below: Row::default(),
         }
@@ -304,6 +326,9 @@ impl Reserves {
         if let Some(seen) = Seen::of(reserve, cluster, plan, verdict) {
             let whole = parse_cluster(cluster).expect("it was seen");
             self.told.count(stream, &Checked { seen, whole, without });
+        }
+        if let Some(damaged) = Damaged::of(cluster, verdict) {
+            self.damages.count(stream, &damaged);
         }
     }
 
@@ -339,6 +364,7 @@ impl Reserves {
         never.extend(missing(&self.headers, "reserve, no steps", wanted(&HEADERS)));
         never.extend(missing(&self.builds, "reserve, build", wanted(&BUILT)));
         never.extend([self.pairs.missing(), self.told.missing()].concat());
+        never.extend(self.damages.missing());
         never.extend(self.told_built.missing());
         never.extend(never_generated(&self.below).then(|| BELOW.to_string()));
         never
@@ -350,6 +376,7 @@ impl Reserves {
         print_kinds("reserve, build", &BUILT, &self.builds);
         self.pairs.print();
         self.told.print();
+        self.damages.print();
         print_row(BELOW, self.below);
         self.told_built.print();
     }

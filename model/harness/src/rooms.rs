@@ -41,6 +41,9 @@ pub fn all() -> Vec<Task> {
         task("shutdowns, then launches", turnover(), Ends::Plan, 2),
         task("relay from a launch", relay(), Ends::Plan, 64),
         task("relay of idle VMs", idle_relay(), Ends::Plan, 65),
+        task("befores in a row", row_of_befores(), Ends::Plan, 129),
+        task("befores in a ring", ring_of_befores(), Ends::Blocked, 1),
+        task("exchanges, befores", exchanges_in_turn(), Ends::Plan, 384),
         task("cluster A", cluster_a(), Ends::Plan, 3),
     ]
 }
@@ -69,7 +72,32 @@ fn full_nodes(vm: impl Fn(usize) -> (usize, usize, u64), constraints: Vec<Constr
 
 /// Every VM goes to another node at once.
 fn direct() -> Room {
-    full_room(NODES, |vm| (vm % NODES, (7 * vm + 3) % NODES), latencies(CONSTRAINTS))
+    anywhere(latencies(CONSTRAINTS))
+}
+
+/// Every VM is to go to another node, and there is room for all.
+fn anywhere(constraints: Vec<Constraint>) -> Room {
+    full_room(NODES, |vm| (vm % NODES, (7 * vm + 3) % NODES), constraints)
+}
+
+/// VM 1 waits for VM 0, VM 2 for VM 1, up to VM 128; all others go at once.
+fn row_of_befores() -> Room {
+    let before = |first| Constraint::Before { first, second: first + 1 };
+    anywhere((0..CONSTRAINTS).map(before).collect())
+}
+
+/// The first 128 VMs wait for each other in a ring, and so for good; all others go at once.
+fn ring_of_befores() -> Room {
+    let before = |first| Constraint::Before { first, second: (first + 1) % CONSTRAINTS };
+    anywhere((0..CONSTRAINTS).map(before).collect())
+}
+
+/// 128 pairs that change places, the last pair first: of each pair the lower VM waits for that of the
+/// next pair, and VM 254 for VM 255.
+fn exchanges_in_turn() -> Room {
+    let before = |first| Constraint::Before { first, second: first - 1 };
+    let constraints = (1..CONSTRAINTS).chain([VMS - 1]).map(before).collect();
+    Room { constraints, ..exchanges(1) }
 }
 
 /// 128 pairs that change places on 62 full nodes, with room for one VM of memory 1 on the last

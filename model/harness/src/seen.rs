@@ -52,7 +52,7 @@ impl Seen {
         let room = parse_cluster(cluster).ok().filter(|_| number != 23)?;
         let room = usable_room(reserve, &room);
         let plan = parse_plan(plan).unwrap_or(Plan::empty(Version::One));
-        let is_at_fault = matches!(number, 15..=18 | 27);
+        let is_at_fault = matches!(number, 15..=18 | 27 | 33);
         let sound = match number {
             0 | 19 => plan.steps.len(),
             _ if is_at_fault => step - 1,

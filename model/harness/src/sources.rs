@@ -8,7 +8,7 @@ use kobdrieft_model::rules::{check_steps, Placement};
 use kobdrieft_model::{bare, parse_cluster, parse_plan, Move, Room, Verdict, Version};
 
 /// What can come of a plan of version 1 or 2, and behind that what only one of version 2 can.
-const KINDS: [Kind; 10] = [
+const KINDS: [Kind; 11] = [
     ("accepted", 0..=0),
     ("1 to 9", 1..=9),
     ("13", 13..=13),
@@ -17,6 +17,7 @@ const KINDS: [Kind; 10] = [
     ("16", 16..=16),
     ("17", 17..=17),
     ("18", 18..=18),
+    ("33", 33..=33),
     ("19", 19..=19),
     ("27", 27..=27),
 ];
@@ -84,13 +85,14 @@ enum Named {
     Other,
 }
 
-const TOLD: [Told<Wrong>; 11] = [
+const TOLD: [Told<Wrong>; 12] = [
     ("27 in the first step", |w| w.is_27() && w.step == 1),
     ("27 in a later step", |w| w.is_27() && w.step > 1),
     ("27, else sound", |w| w.is_27() && w.unnamed.is_none()),
     ("27 before 16", |w| w.is_27() && w.unnamed == Some(16)),
     ("27 before 17", |w| w.is_27() && w.unnamed == Some(17)),
     ("27 before 18", |w| w.is_27() && w.unnamed == Some(18)),
+    ("27 before 33", |w| w.is_27() && w.unnamed == Some(33)),
     ("27, source no node", |w| w.is_27() && w.names() == Named::NoNode),
     ("27, source the destination", |w| w.is_27() && w.names() == Named::Destination),
     ("27, source the record's place", |w| w.is_27() && w.names() == Named::Record),

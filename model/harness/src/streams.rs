@@ -35,7 +35,7 @@ pub fn large(rng: &mut Rng) -> Large {
 /// Rooms that take many steps, or many moves a step.
 fn large_room(rng: &mut Rng) -> Room {
     let size = rng.pick(&[Size::Medium, Size::Large, Size::Large]);
-    match rng.below(10) {
+    match rng.below(12) {
         0 => gen::swaps(rng.range(20, 128)),
         1 | 2 => {
             let n = rng.range(20, 64);
@@ -48,6 +48,7 @@ fn large_room(rng: &mut Rng) -> Room {
             gen::relay(rng, n)
         }
         7 => gen::busy(rng, size),
+        8 | 9 => gen::waiting(rng, size),
         _ => gen::room(rng, size),
     }
 }

@@ -1,10 +1,10 @@
-//! What refuses a step, for the faults 27 and 16 to 18: what to mark in its frame, and why.
+//! What refuses a step, for the faults 27, 16 to 18 and 33: what to mark in its frame, and why.
 
 use super::kept::Kept;
 use super::words::place_words;
 use crate::form::{constraint_line, number_list, NODES};
 use crate::records::{on_a_node, Move, Room};
-use crate::rules::{allows, mates, memory_within, takes, Placement, Sum};
+use crate::rules::{allows, firsts, mates, memory_within, takes, Placement, Sum};
 
 /// More reasons than this are only counted; all are marked.
 const MOST_TOLD: usize = 3;
@@ -35,6 +35,7 @@ impl Blame {
             16 => ("forbidden", step.iter().filter_map(|&m| forbidden(room, m)).collect()),
             17 => ("no space", no_space(room, kept, here, step)),
             18 => ("mates meet", step.iter().flat_map(|&m| meets(room, here, step, m)).collect()),
+            33 => ("waited for", step.iter().flat_map(|m| waits(room, here, step, m.vm)).collect()),
             _ => ("", vec![]),
         };
         Blame { word, culprits }
@@ -149,6 +150,23 @@ fn meets(room: &Room, here: &Placement, step: &[Move], m: Move) -> Vec<Culprit> 
         Some(Culprit { place: Some(to), blocks, why: order(&begun, to, &what) })
     };
     mates(room, vm).into_iter().filter_map(meet).collect()
+}
+
+/// Fault 33: those that a moving VM waits for and that are off their targets, or move too. Each is
+/// marked where it is when the step starts, and so is the VM that waits.
+fn waits(room: &Room, here: &Placement, step: &[Move], vm: usize) -> Vec<Culprit> {
+    let wait = |first: usize| {
+        let (place, target) = (here.place[first], room.vms[first].target);
+        let away = format!("is not on its target, {}, when the step starts", place_words(target));
+        let with_it = "moves in the same step".to_string();
+        let reasons = [(place != target, away), (step.iter().any(|m| m.vm == first), with_it)];
+        let said: Vec<String> =
+            reasons.into_iter().filter(|(holds, _)| *holds).map(|(_, words)| words).collect();
+        let why = format!("VM {vm} waits for VM {first}, which {}.", said.join(", and "));
+        let blocks = vec![(place, first), (here.place[vm], vm)];
+        (!said.is_empty()).then_some(Culprit { place: Some(place), blocks, why })
+    };
+    firsts(room, vm).into_iter().filter_map(wait).collect()
 }
 
 /// An order up to the begin that fails, and what its node would then have.

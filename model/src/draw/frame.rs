@@ -2,7 +2,7 @@
 
 use super::blame::Blame;
 use super::kept::Kept;
-use super::words::{behind, many, moves, stranger, Spent};
+use super::words::{befores, behind, many, moves, stranger, Spent};
 use crate::records::{on_a_node, Move, Room, Step, NOWHERE};
 use crate::rules::{cpu_within, Placement, Sum, Verdict};
 
@@ -125,7 +125,9 @@ pub fn frames(
     let brief = room.nodes.len() > MOST_NODES || room.vms.len() * (drawn + 2) > MOST_BLOCKS;
     let mut here = Placement::current(room);
     let mut spent = Spent::default();
-    let mut frames = vec![still(room, &here, "Start")];
+    let mut start = still(room, &here, "Start");
+    start.notes.extend(befores(room));
+    let mut frames = vec![start];
     for (i, step) in steps.iter().take(drawn).enumerate() {
         if let Some(why) = stranger(room, &here, step) {
             return Err(format!("this plan is not one for this cluster: in step {}, {why}", i + 1));

@@ -45,6 +45,9 @@ const SHELF: &str = " The shelf holds the VMs on no node; nothing counts there. 
     has ended. VM 5 \u{2190} none: it is launched.";
 const IDLE: &str = " A VM with CPU 0 needs only memory to arrive, so that a node over its CPU may \
     take it.";
+const BEFORE: &str =
+    " VM 0 before VM 1: a step moves VM 1 only if VM 0 is on its target when it starts, \
+    and stays there.";
 const PIVOT: &str = " A pivot is a move to a node that is not its VM's target.";
 const MARKS: &str = " Broken red lines are around what refuses a step.";
 
@@ -148,6 +151,7 @@ fn reading(room: &Room, steps: &[Step], frames: &[Frame]) -> String {
         (frames.iter().any(|frame| frame.brief), BRIEF),
         (room.has_nowhere(), SHELF),
         (frames.iter().any(|frame| frame.has_idle_arrival_over_cpu(room)), IDLE),
+        (room.befores().next().is_some(), BEFORE),
         (pivots, PIVOT),
         (frames.iter().any(|frame| !frame.blame.notes().is_empty()), MARKS),
     ];

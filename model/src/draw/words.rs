@@ -8,6 +8,9 @@ use crate::rules::{step_cost, step_sum, Placement};
 /// More ways than this are only counted.
 const MOST_WAYS: usize = 24;
 
+/// More pairs of which one waits for the other are only counted.
+const MOST_PAIRS: usize = 12;
+
 /// A count with its noun.
 pub fn many(count: usize, noun: &str) -> String {
     let end = if count == 1 { "" } else { "s" };
@@ -80,6 +83,17 @@ fn way_words((from, to, pivot, vms): &Way) -> String {
         (true, false) => format!("shut down on node {from}"),
     };
     format!("VM{end} {} {way}{remark}", number_list(vms, ""))
+}
+
+/// Who waits for whom, if anybody does.
+pub fn befores(room: &Room) -> Option<String> {
+    let pair = |(first, second): (usize, usize)| format!("VM {first} before VM {second}");
+    let mut words: Vec<String> = room.befores().take(MOST_PAIRS).map(pair).collect();
+    match room.befores().skip(MOST_PAIRS).count() {
+        0 => {}
+        n => words.push(format!("and {n} more")),
+    }
+    (!words.is_empty()).then(|| format!("{}.", words.join(", ")))
 }
 
 /// What the steps so far cost, and what the plan costs up to them.

@@ -1,7 +1,7 @@
 //! Hand-set inputs at reserves: too high, with amounts on both sides of what is usable, and with nodes
 //! that are within their capacity but over what is usable of it.
 
-use super::{cluster_a, node, room, room_2, vm, Edge, Edges};
+use super::{before, cluster_a, node, room, room_2, vm, Edge, Edges};
 use crate::gen::{MOST_CPU, MOST_MEMORY};
 use crate::records::{cluster_bytes, Room, Version, NOWHERE};
 use crate::reserves::TOO_HIGH;
@@ -229,4 +229,26 @@ pub(super) fn planned(e: &mut Edges) {
     busy.vms.push(vm(1, 1, 2, 0));
     e.no_steps_at(20, "an idle VM goes first, an active one waits", &busy, 19);
     e.no_steps("neither waits", &cluster_bytes(&busy), 19);
+}
+
+/// VM 2 waits for VM 0, which makes node 0 be over what is usable of it at reserve 20 until it has left:
+/// 17 comes before 33 there, and where VM 2 is idle 33 is what refuses it.
+pub(super) fn befores(e: &mut Edges) {
+    let waits = |by_memory, cpu| {
+        let room = over_usable(by_memory, 1, cpu);
+        Room { constraints: vec![before(0, 2)], ..room }
+    };
+    let (full, too_soon) = (Some((17, 1)), Some((33, 1)));
+    let first: Rows = &[&[(2, 0)], &[(0, 1)]];
+    let together: Rows = &[&[(0, 1), (2, 0)]];
+    for (by_memory, cpu, check) in
+        [(true, 0, full), (true, 1, full), (false, 0, too_soon), (false, 1, full)]
+    {
+        let room = waits(by_memory, cpu);
+        let name = |what: &str| format!("over usable, {by_memory} {cpu}, the second {what}");
+        e.at_and_without(20, &name("first"), &room, first, [check, too_soon]);
+        e.at_and_without(20, &name("at once"), &room, together, [check, too_soon]);
+        e.at_and_without(20, &name("last"), &room, &[&[(0, 1)], &[(2, 0)]], [None, None]);
+        e.no_steps_at(20, &name("is planned"), &room, 19);
+    }
 }

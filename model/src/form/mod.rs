@@ -9,6 +9,7 @@
 //! fence vms none nodes 0 1            none is an empty list
 //! spread vms 0 1
 //! latency vms 0 1 groups 0 1 | 2      a group without nodes is empty, no groups at all are none
+//! before 0 1                          VM 0 is on its target before VM 1 moves
 //! version 2                           may stand anywhere; without it a cluster is of version 2 if
 //!                                     some VM is or should be nowhere, else of version 1
 //! ```

@@ -69,7 +69,7 @@ fn sort(lines: Vec<Words>) -> Result<Sorted, Fault> {
         match words.next().unwrap_or_default() {
             "node" => sorted.nodes.push(words),
             "vm" => sorted.vms.push(words),
-            kind @ ("ban" | "fence" | "spread" | "latency") => {
+            kind @ ("ban" | "fence" | "spread" | "latency" | "before") => {
                 sorted.constraints.push((kind, words));
             }
             "version" => {
@@ -82,7 +82,7 @@ fn sort(lines: Vec<Words>) -> Result<Sorted, Fault> {
                 return words.fault("'step' belongs in a plan's text; this is read as a cluster");
             }
             other => {
-                let known = "version, node, vm, ban, fence, spread or latency";
+                let known = "version, node, vm, ban, fence, spread, latency or before";
                 return words.fault(format!("no line begins with '{other}', only with {known}"));
             }
         }
@@ -176,6 +176,9 @@ fn constraints(lines: Vec<(&str, Words)>, counts: Counts) -> Result<Vec<Constrai
 }
 
 fn constraint(kind: &str, words: &mut Words, counts: Counts) -> Result<Constraint, Fault> {
+    if kind == "before" {
+        return before(words, counts.vms);
+    }
     words.expect("vms")?;
     let vms = list(words, "none", VMS, counts.vms)?;
     if kind == "spread" {
@@ -191,6 +194,19 @@ fn constraint(kind: &str, words: &mut Words, counts: Counts) -> Result<Constrain
         "ban" => Constraint::Ban { vms, nodes },
         _ => Constraint::Fence { vms, nodes },
     })
+}
+
+/// Reads two different VMs.
+fn before(words: &mut Words, vms: usize) -> Result<Constraint, Fault> {
+    let mut vm = |what: &str| {
+        let number = words.number(what)?;
+        known(words, number, VMS, vms)
+    };
+    let (first, second) = (vm("the first VM")?, vm("the second VM")?);
+    if first == second {
+        return words.fault(format!("VM {first} cannot wait for itself"));
+    }
+    Ok(Constraint::Before { first, second })
 }
 
 /// Reads numbers and runs as long as they come, or the word for an empty list.

@@ -3,8 +3,8 @@
 use super::{place_word, Things, NODES, VMS};
 use crate::records::{Constraint, Node, Room, Version, Vm};
 
-/// Writes a cluster's text, with the numbers of nodes and VMs as remarks. Its version needs a line
-/// only where no place tells it and it is not 1.
+/// Writes a cluster's text, with remarks: the numbers of nodes and VMs, and what a line `before` asks.
+/// Its version needs a line only where no place tells it and it is not 1.
 pub fn write_cluster(room: &Room) -> String {
     let mut text = String::from("# memory in MiB, CPU in hundredths of a processing unit\n");
     if room.version == Version::Two && !room.has_nowhere() {
@@ -16,10 +16,20 @@ pub fn write_cluster(room: &Room) -> String {
         format!("vm {memory} {cpu} from {current} to {target}")
     });
     for constraint in &room.constraints {
-        text += &constraint_line(constraint);
-        text.push('\n');
+        let line = constraint_line(constraint);
+        text += &match constraint {
+            Constraint::Before { first, second } => {
+                remarked(&line, &format!("VM {first} is on its target before VM {second} moves"))
+            }
+            _ => line + "\n",
+        };
     }
     text
+}
+
+/// A line with a remark behind it.
+fn remarked(line: &str, remark: &str) -> String {
+    format!("{line:<32}# {remark}\n")
 }
 
 /// A line for each run of equal rows.
@@ -30,10 +40,10 @@ fn rows<T: PartialEq>(rows: &[T], things: Things, line: impl Fn(&T) -> String) -
         let last = first + equals.len() - 1;
         let row = line(&equals[0]);
         text += &if first == last {
-            format!("{row:<32}# {} {first}\n", things.one)
+            remarked(&row, &format!("{} {first}", things.one))
         } else {
             let row = format!("{row} x{}", equals.len());
-            format!("{row:<32}# {} {first} to {last}\n", things.many)
+            remarked(&row, &format!("{} {first} to {last}", things.many))
         };
         first = last + 1;
     }
@@ -52,6 +62,7 @@ pub fn constraint_line(constraint: &Constraint) -> String {
             let groups = if groups.is_empty() { "none".into() } else { groups.join(" | ") };
             format!("latency vms {} groups {groups}", number_list(vms, "none"))
         }
+        Constraint::Before { first, second } => format!("before {first} {second}"),
     }
 }
 

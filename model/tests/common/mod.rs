@@ -26,6 +26,14 @@ pub fn accepted(cost: u64) -> Verdict {
     Verdict::Accepted { cost }
 }
 
+/// One more than the highest number of a refusal.
+pub const NUMBERS: usize = 34;
+
+/// Whether the checker gives this number with no reserve, or accepted if it is 0.
+pub fn is_given(number: usize) -> bool {
+    matches!(number, 0..=9 | 11..=19 | 27 | 33)
+}
+
 /// The number of a refusal, or 0 for accepted.
 pub fn number_of(verdict: Verdict) -> usize {
     match verdict {

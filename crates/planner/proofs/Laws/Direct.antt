@@ -1,6 +1,6 @@
 -- Laws on the direct step: it is sound, its moves take VMs that are away to their targets, and it has none exactly if no VM can go.
 use Prim.Native.Nat.{ℕ, zero, suc, _+_, _≤_, _<_}
-use mathlib.Core.Bool.{Bool, true, false, not, _&&_, or-true}
+use mathlib.Core.Bool.{Bool, true, false, not, _&&_, false≢true, or-true}
 use mathlib.Core.List.{List, [], _∷_, _++_}
 use mathlib.Core.Logic.{by-cases}
 use mathlib.Core.Path.{_≡_, refl, sym, ap, _∙_}
@@ -14,12 +14,15 @@ use Rattle.records.specs.Room.{Room, nowhere, onNode}
 use Rattle.records.specs.Plan.{Move, Step}
 use Rattle.records.proofs.Laws.Bools.{and-left, and-right, and-both}
 use Rattle.rules.specs.Moments.{Placement, placeOf, targetOf, bearsAt}
-use Rattle.rules.specs.Orders.{meetsMate}
-use Rattle.rules.specs.Rules.{from, allowed, aims, soundStep}
+use Rattle.rules.specs.Orders.{some, meetsMate}
+use Rattle.rules.specs.Rules.{from, allowed, aims, hasMove, inTurn, soundStep}
 use Rattle.rules.proofs.Laws.Orders.{never, named-vm}
 use Rattle.rules.proofs.Laws.Sound.{sound-named}
+use Rattle.rules.proofs.Laws.Turn.{turn-none}
 use Rattle.rules.proofs.Laws.Adding.{eqb-sym, joins, alone, all-snoc, empty-sound}
-use Rattle.planner.specs.Picks.{vmsIn, away, direct, canGo, joined, joinedAll, directStep}
+use Rattle.planner.specs.Picks.{vmsIn, away, moving, direct, canGo, joined, joinedAll, directStep}
+use Rattle.planner.specs.Inner.{heldBack}
+use Rattle.planner.proofs.Laws.Waits.{turn-added}
 
 -- a move of a VM that is away, to its target
 abbrev pub homeward : Room → Placement → Move → Bool
@@ -101,11 +104,19 @@ module _ (room : Room) (places : Placement) where
       named-vm room places 0 (direct room v) []
       (sound-named room places (direct room v ∷ []) (and-right (away room places v) _ e))
 
-  -- a VM that is wanted on no node and is on one can always go: a shutdown never waits
-  pub shutdown-goes : (v : ℕ) → v < length (room .vms) → placeOf (targetOf room) v ≡ nowhere → away room places v ≡ true → canGo room places v ≡ true
+  -- a VM alone is in turn exactly if it is not held back
+  pub lone-turn : (v d : ℕ) → away room places v ≡ true → inTurn room places (moving v d ∷ []) ≡ not (heldBack room places v)
+  unfolding hasMove some
+  lone-turn v d a = turn-added room places [] v d (λ u h. absurd (false≢true h)) (turn-none room places) a
+
+  -- a VM that is wanted on no node and is on one can go, unless one that comes before it is off its target: a shutdown waits for nothing else
+  pub shutdown-goes : (v : ℕ) → v < length (room .vms) → placeOf (targetOf room) v ≡ nowhere → away room places v ≡ true → heldBack room places v ≡ false →
+      canGo room places v ≡ true
   unfolding canGo away joins aims allowed bearsAt meetsMate onNode
-  shutdown-goes v h t a =
-      and-both a (alone room places v (placeOf (targetOf room) v) ∙ rw (t, lt-ltb v (length (room .vms)) h, or-true (ltb nowhere (length (room .nodes))), eqb-sym nowhere (placeOf places v))
+  shutdown-goes v h t a f =
+      let turn : inTurn room places (moving v nowhere ∷ []) ≡ true = lone-turn v nowhere a ∙ ap not f in
+      and-both a (alone room places v (placeOf (targetOf room) v) ∙
+      rw (t, lt-ltb v (length (room .vms)) h, or-true (ltb nowhere (length (room .nodes))), eqb-sym nowhere (placeOf places v), turn)
       (rw t at (and-both a refl)))
 
   pub direct-none : directStep room places ≡ [] → (v : ℕ) → canGo room places v ≡ false

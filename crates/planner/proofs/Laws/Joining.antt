@@ -1,6 +1,6 @@
 -- Laws on a move that is added to a step held as an array of destinations: the test at its destination is the test of the whole step.
 use Prim.Native.Nat.{ℕ, _+_, _*_, _≤_, _<_}
-use mathlib.Core.Bool.{Bool, true, false, not}
+use mathlib.Core.Bool.{Bool, true, false, not, _&&_, and-true}
 use mathlib.Core.List.{List, [], _∷_, _++_}
 use mathlib.Core.Logic.{by-cases}
 use mathlib.Core.Path.{_≡_, refl, sym, ap, _∙_}
@@ -22,7 +22,7 @@ use Rattle.records.proofs.Laws.Reserve.{room-vms}
 use Rattle.records.proofs.Laws.Rows.{place-node, node-on, near-node, far-off}
 use Rattle.rules.specs.Moments.{bears, bearsAt, withVm, tallyAt, firstMoment, allRunning}
 use Rattle.rules.specs.Orders.{meetsMate}
-use Rattle.rules.specs.Rules.{allowed, aims, soundStep}
+use Rattle.rules.specs.Rules.{allowed, aims, inTurn, soundStep}
 use Rattle.rules.specs.Inner.{NeedOf, held, destsFrom, busyFrom, Allows}
 use Rattle.rules.specs.declared.tally.Need.{Need}
 use Rattle.rules.specs.declared.tally.Tally.{Tally}
@@ -32,7 +32,8 @@ use Rattle.rules.proofs.Laws.Adding.{eqb-sym, joins, adding}
 use Rattle.rules.proofs.Laws.Fit.{aims-place, held-at, running-at}
 use Rattle.rules.proofs.Laws.Sound.{sound-named}
 use Rattle.planner.specs.Picks.{moving}
-use Rattle.planner.specs.Inner.{joinsIn, goalOf}
+use Rattle.planner.specs.Inner.{heldBack, Waiting, joinsIn, goalOf}
+use Rattle.planner.proofs.Laws.Waits.{marked-waits, unmarked-free}
 
 -- ---- indices
 
@@ -86,10 +87,24 @@ module _ (reserve : ℕ) (s places dests : List ℕ) (here : Tally) (v d : ℕ) 
     leaves : eqb (getD places v 0) d ≡ false
     leaves = ne-eqb (getD places v 0) d (λ x. f (e ∙ x))
 
-    -- to no node nothing is asked
-    pub join-off : clusterCheck s ≡ Whole → placeOk true (nodeCount s) d ≡ true → 64 ≤ d → true ≡ joinsIn reserve s places dests here v d
-    unfolding joinsIn allowed bearsAt meetsMate
-    join-off w a h = rw (leaves, far-off (nodeCount s) d (nodes-most s w) a h)
+    module _ (marks : List ℕ) (m : Waiting s places marks) (t : v < vmCount s) where
+      -- a VM that waits goes nowhere
+      pub join-waits : (getD marks v 0 ≡ 0 → ⊥) → false ≡ joinsIn reserve s places dests here v d
+      unfolding joinsIn
+      join-waits n = rw (leaves, marked-waits reserve s places marks v m t n)
+          (late (allowed (roomAt reserve s) v d) (bearsAt (roomAt reserve s) d (withVm here (vmOf (roomAt reserve s) v)) (vmOf (roomAt reserve s) v))
+          (not (meetsMate (roomAt reserve s) (busyFrom places dests 0 (vmCount s)) v d)))
+        where
+          late : (a b c : Bool) → false ≡ (a && (b && (c && false)))
+          late true true true = refl
+          late true true false = refl
+          late true false c = refl
+          late false b c = refl
+
+      -- to no node nothing else is asked
+      pub join-off : clusterCheck s ≡ Whole → placeOk true (nodeCount s) d ≡ true → getD marks v 0 ≡ 0 → 64 ≤ d → true ≡ joinsIn reserve s places dests here v d
+      unfolding joinsIn allowed bearsAt meetsMate
+      join-off w a n h = rw (leaves, far-off (nodeCount s) d (nodes-most s w) a h, unmarked-free reserve s places marks v m t n)
 
     module _ (table : List ℕ) (a : Allows s table) (w : clusterCheck s ≡ Whole) (t : v < vmCount s) (n : d < nodeCount s) where
       marked : getD table (v * 64 + d) 0 ≡ pick (allowed (roomAt reserve s) v d) 1 0
@@ -119,9 +134,12 @@ module _ (reserve : ℕ) (s places dests : List ℕ) (here : Tally) (v d : ℕ) 
         unfolding joinsIn
         join-full q = rw (leaves, is-allowed z, bears-is ∙ q)
 
-        pub join-met : (met : Bool) → met ≡ meetsMate (roomOf s) (busyFrom places dests 0 (vmCount s)) v d → ok ≡ true → not met ≡ joinsIn reserve s places dests here v d
+        pub join-met : (met : Bool) (marks : List ℕ) → met ≡ meetsMate (roomOf s) (busyFrom places dests 0 (vmCount s)) v d → Waiting s places marks → getD marks v 0 ≡ 0 → ok ≡ true →
+            not met ≡ joinsIn reserve s places dests here v d
         unfolding joinsIn
-        join-met met x q = rw (leaves, is-allowed z, bears-is ∙ q, x, meets-same reserve (roomOf s))
+        join-met met marks x m f q =
+            rw (leaves, is-allowed z, bears-is ∙ q, x, meets-same reserve (roomOf s), unmarked-free reserve s places marks v m t f)
+            (sym (and-true (not (meetsMate (roomOf s) (busyFrom places dests 0 (vmCount s)) v d))))
 
 -- where a VM goes
 module _ (reserve : ℕ) (s places dests : List ℕ) (here : Tally) (v to : ℕ) (ok : Bool) (f : to ≡ vmOf (roomOf s) v .target) (o : ok ≡ joinsIn reserve s places dests here v to) where
@@ -159,7 +177,8 @@ dests-above (move ∷ moves) v h a =
 -- what the arrays give is what the step gives
 module _ (reserve : ℕ) (s places dests : List ℕ) (step : Step) (here : Tally) (v d : ℕ) (w : clusterCheck s ≡ Whole) (q : dests ≡ destsFrom step)
     (sound : soundStep (roomAt reserve s) (held s places) step ≡ true)
-    (h : d < 64 → here ≡ tallyAt (roomAt reserve s) d (allRunning (firstMoment (roomAt reserve s) (held s places) step))) (t : v < vmCount s) (n : aims (roomAt reserve s) v d ≡ true) where
+    (h : d < 64 → here ≡ tallyAt (roomAt reserve s) d (allRunning (firstMoment (roomAt reserve s) (held s places) step))) (t : v < vmCount s) (n : aims (roomAt reserve s) v d ≡ true)
+    (turn : eqb (getD places v 0) d ≡ false → inTurn (roomAt reserve s) (held s places) (step ++ (moving v d ∷ [])) ≡ not (heldBack (roomAt reserve s) (held s places) v)) where
   -- the tally of what is no node is not asked for
   same-bears : bearsAt (roomAt reserve s) d (withVm here (vmOf (roomAt reserve s) v)) (vmOf (roomAt reserve s) v) ≡
       bearsAt (roomAt reserve s) d (withVm (tallyAt (roomAt reserve s) d (allRunning (firstMoment (roomAt reserve s) (held s places) step))) (vmOf (roomAt reserve s) v)) (vmOf (roomAt reserve s) v)
@@ -181,6 +200,15 @@ module _ (reserve : ℕ) (s places dests : List ℕ) (step : Step) (here : Tally
         q,
         running-at reserve s places step w (sound-named (roomAt reserve s) (held s places) step sound),
       )
+      (go (eqb (getD places v 0) d) turn (allowed (roomAt reserve s) v d)
+      (bearsAt (roomAt reserve s) d (withVm (tallyAt (roomAt reserve s) d (allRunning (firstMoment (roomAt reserve s) (held s places) step))) (vmOf (roomAt reserve s) v)) (vmOf (roomAt reserve s) v))
+      (not (meetsMate (roomAt reserve s) (allRunning (firstMoment (roomAt reserve s) (held s places) step)) v d)))
+    where
+      go : (b : Bool) → (b ≡ false → inTurn (roomAt reserve s) (held s places) (step ++ (moving v d ∷ [])) ≡ not (heldBack (roomAt reserve s) (held s places) v)) →
+          (x y z : Bool) → (not b && (x && (y && (z && not (heldBack (roomAt reserve s) (held s places) v))))) ≡
+          (not b && (x && (y && (z && inTurn (roomAt reserve s) (held s places) (step ++ (moving v d ∷ []))))))
+      go true e x y z = refl
+      go false e x y z = ap (λ (c : Bool). x && (y && (z && c))) (sym (e refl))
 
   module _ (a : all (λ move. ltb (move .vm) v) step ≡ true) where
     pub longer-sound : soundStep (roomAt reserve s) (held s places) (step ++ (moving v d ∷ [])) ≡ joinsIn reserve s places dests here v d

@@ -6,7 +6,7 @@ use mathlib.Core.Path.{_≡_, refl, sym, ap, ap₂, _∙_}
 use native.Mathlib.Nat.{sub-zero}
 use native.Mathlib.Omega.{arith}
 use lib.ListN.{length, getD, set, replicate}
-use lib.Seq.{length-take-le, take-set-lt}
+use lib.Seq.{length-take-le}
 use lib.Dec.{ltb, eqb}
 use borrow.Author.Tests.{lt-ltb, le-ltb, eq-eqb, ne-eqb, eqb-false, not-true}
 use Rattle.records.specs.Base.{pick, all}
@@ -28,10 +28,11 @@ use Rattle.rules.proofs.Laws.Named.{aims-node}
 use Rattle.rules.proofs.Laws.Places.{target-there}
 use Rattle.rules.proofs.Laws.Targets.{dests-none}
 use Rattle.planner.specs.Picks.{moving, away, canGo, directStep, pivotFirst, pivotStep, pivotAmong, orElse, vmsIn, nodesIn}
-use Rattle.planner.specs.Inner.{Rested, joinsIn, aside, pivotNode, comer, comesTo, usefulNode}
+use Rattle.planner.specs.Inner.{Waiting, Rested, joinsIn, aside, pivotNode, comer, comesTo, usefulNode}
 use Rattle.planner.proofs.Laws.Direct.{direct-none}
+use Rattle.planner.proofs.Laws.Waits.{turn-lone, held-set, waits-aside}
 use Rattle.planner.proofs.Laws.Joining.{longer-sound}
-use Rattle.planner.proofs.Laws.Pivots.{pivot-among, useful-home, useful-down, useful-nobody, useful-found, useful-not}
+use Rattle.planner.proofs.Laws.Pivots.{pivot-among, useful-home, useful-down, useful-nobody, useful-found, useful-not, pivot-node-off}
 use Rattle.planner.proofs.Laws.Turning.{left-cons, left-none, rest-tally}
 
 -- ---- one VM alone
@@ -52,7 +53,7 @@ pub lone-sound : (reserve : ℕ) (s places dests : List ℕ) (here : Tally) (v d
     clusterCheck s ≡ Whole → v < vmCount s → d < nodeCount s → r ≡ soundStep (roomAt reserve s) (held s places) (moving v d ∷ [])
 unfolding all
 lone-sound reserve s places dests here v d r e q a w t n =
-    e ∙ sym (longer-sound reserve s places dests [] here v d w (q ∙ sym dests-none) (empty-sound (roomAt reserve s) (held s places)) (λ l. rw (tally-same reserve (roomOf s), moment-same reserve (roomOf s) (held s places) []) (a .is)) t (aims-same reserve (roomOf s) v d ∙ sym (aims-node s v d (nodeCount s) refl n)) refl)
+    e ∙ sym (longer-sound reserve s places dests [] here v d w (q ∙ sym dests-none) (empty-sound (roomAt reserve s) (held s places)) (λ l. rw (tally-same reserve (roomOf s), moment-same reserve (roomOf s) (held s places) []) (a .is)) t (aims-same reserve (roomOf s) v d ∙ sym (aims-node s v d (nodeCount s) refl n)) (λ o. turn-lone reserve s (held s places) v d w) refl)
 
 -- not to its target
 module _ (reserve : ℕ) (s places : List ℕ) (v d t : ℕ) (e : t ≡ vmOf (roomOf s) v .target) where
@@ -144,10 +145,6 @@ module _ (reserve : ℕ) (s places : List ℕ) (v p u n : ℕ) (result : Bool) (
 
 -- ---- the useful pivot of one VM
 
-pub held-set : (s places : List ℕ) (v d : ℕ) → v < vmCount s → held s (set places v d) ≡ set (held s places) v d
-unfolding held
-held-set s places v d h = take-set-lt (vmCount s) places v d h
-
 pub held-length : (reserve : ℕ) (s places : List ℕ) → length places ≡ 256 → clusterCheck s ≡ Whole → length (held s places) ≡ length (roomAt reserve s .vms)
 unfolding held
 held-length reserve s places z w = let m = vms-most s w in length-take-le (vmCount s) places (omega arith) ∙ sym (room-vms reserve s)
@@ -176,6 +173,13 @@ module _ (reserve : ℕ) (s places : List ℕ) (v n p t : ℕ) (b : Placed s pla
   module _ (g : p ≡ t → ⊥) (up : p < 64) (d : ℕ) (x : d ≡ pivotNode (roomAt reserve s) (held s places) v (nodesIn (roomAt reserve s))) where
     pub useful-lost : n ≤ d → n ≡ usefulNode (roomAt reserve s) (held s places) v (nodesIn (roomAt reserve s))
     useful-lost k = let a = nodes-are in a ∙ useful-nobody (roomAt reserve s) (held s places) v d x (omega arith)
+
+    -- the marks of those who wait are the same behind the pivot
+    pub useful-waits : (marks : List ℕ) → Waiting s places marks → d < n → length places ≡ 256 → Waiting s (set places v d) marks
+    useful-waits marks m k z =
+        let a = nodes-are in
+        waits-aside reserve s places marks v d m z h w (away-is ∙ ap not (ne-eqb p t g))
+        (λ q. pivot-node-off (roomAt reserve s) (held s places) v d x (omega arith) (q ∙ sym (target-there reserve s v)))
 
     module _ (ok : Bool) (o : ok ≡ comesTo (roomAt reserve s) (held s (set places v d)) v p (vmsIn (roomAt reserve s)))
         (y : directStep (roomAt reserve s) (held s places) ≡ []) (k : d < n) (z : length places ≡ 256) where

@@ -12,19 +12,18 @@ use lib.Seq.{drop-cons, getD-set-same, getD-set-other}
 use lib.Dec.{ltb, eqb}
 use borrow.Author.Tests.{lt-ltb, eq-eqb, ne-eqb, ltb-true}
 use Rattle.records.specs.Base.{pick, all}
-use Rattle.records.specs.Room.{Constraint, ban, fence, spread, latency, kindOf, vmsOf, onNode, has, Room, roomOf, vmCount, nodeCount, constraintsStart, constraintCount, partAt, partsFrom, constraintOf, rises, listOk, constraintOk, filled, wellFormed, clusterCheck}
+use Rattle.records.specs.Room.{Constraint, ban, fence, spread, latency, before, kindOf, vmsOf, onNode, has, Room, roomOf, vmCount, nodeCount, constraintsStart, constraintCount, partAt, partsFrom, constraintOf, rises, listOk, constraintOk, filled, wellFormed, clusterCheck}
 use Rattle.records.specs.Inner.{Parts}
 use Rattle.records.specs.declared.constraints.Kind.{Kind}
-use Rattle.records.specs.declared.constraints.Kind.the-variants.{Ban, Fence, Spread, Latency}
+use Rattle.records.specs.declared.constraints.Kind.the-variants.{Ban, Fence, Spread, Latency, Before}
 use Rattle.records.specs.declared.faults.ClusterCheck.the-variants.{Whole}
 use Rattle.records.proofs.Laws.Rows.{node-on}
-use Rattle.records.proofs.Laws.Bools.{and-left, and-right, pick-same, all-head, all-tail}
+use Rattle.records.proofs.Laws.Bools.{and-left, and-right, pick-same, all-head, all-tail, all-more}
 use Rattle.records.proofs.Laws.Cluster.{vms-most}
 use Rattle.records.proofs.Laws.Walk.{constraints-are, walk-start, walk-cons, vms-sound}
 use Rattle.records.proofs.Laws.Parts.{parts-step}
 use Rattle.rules.specs.Orders.{spreads, some, mates, meetsMate}
 use Rattle.rules.specs.Inner.{busyFrom}
-use Rattle.rules.proofs.Laws.Sound.{all-more}
 use Rattle.rules.proofs.Laws.Loads.{counts-is}
 use Rattle.planner.specs.Inner.{pairRow, pairRows, paired, pairedAll, Blank, Pairs}
 
@@ -56,6 +55,7 @@ part-spread table after vms (ban xs nodes) kind a t e b = let z : _≡_ {A = ℕ
 part-spread table after vms (fence xs nodes) kind a t e b = let z : _≡_ {A = ℕ} 0 1 = cc in absurd (omega arith)
 part-spread table after vms (spread xs) kind a t e b = t ∙ ap (λ (l : List ℕ). pairRows table l l) e
 part-spread table after vms (latency xs groups) kind a t e b = let z : _≡_ {A = ℕ} 0 1 = cc in absurd (omega arith)
+part-spread table after vms (before first second) kind a t e b = let z : _≡_ {A = ℕ} 0 1 = cc in absurd (omega arith)
 
 part-other : (table : List ℕ) (k : Constraint) → (kindOf k ≡ Spread → ⊥) → table ≡ paired table k
 unfolding paired kindOf
@@ -63,6 +63,7 @@ part-other table (ban xs nodes) n = refl
 part-other table (fence xs nodes) n = refl
 part-other table (spread xs) n = absurd (n refl)
 part-other table (latency xs groups) n = refl
+part-other table (before first second) n = refl
 
 module _ (table : List ℕ) (k : Constraint) (kind : Kind) (a : kind ≡ kindOf k) where
   pub part-ban : kind ≡ Ban → table ≡ paired table k
@@ -74,6 +75,9 @@ module _ (table : List ℕ) (k : Constraint) (kind : Kind) (a : kind ≡ kindOf 
   pub part-latency : kind ≡ Latency → table ≡ paired table k
   part-latency b = part-other table k (λ q. let z : _≡_ {A = ℕ} 0 1 = cc in omega arith)
 
+  pub part-before : kind ≡ Before → table ≡ paired table k
+  part-before b = part-other table k (λ q. let z : _≡_ {A = ℕ} 0 1 = cc in omega arith)
+
 -- ---- the table says what the definition says
 
 same-place : (u v w x : ℕ) → w < 256 → x < 256 → u * 256 + w ≡ v * 256 + x → (u ≡ v) × (w ≡ x)
@@ -84,7 +88,7 @@ marked table i true h = refl
 marked table i false h = getD-set-same table i 1 0 h
 
 -- one mark after another: made by either
-pick-or : (p q : Bool) (x : ℕ) → pick q 1 (pick p 1 x) ≡ pick (p || q) 1 x
+pub pick-or : (p q : Bool) (x : ℕ) → pick q 1 (pick p 1 x) ≡ pick (p || q) 1 x
 pick-or true true x = refl
 pick-or true false x = refl
 pick-or false q x = refl
@@ -112,6 +116,7 @@ paired-length table (ban vms nodes) = refl
 paired-length table (fence vms nodes) = refl
 paired-length table (spread vms) = rows-length table vms vms
 paired-length table (latency vms groups) = refl
+paired-length table (before first second) = refl
 
 module _ (a b : ℕ) (ha : a < 256) (hb : b < 256) where
   -- one mark more
@@ -152,6 +157,7 @@ module _ (a b : ℕ) (ha : a < 256) (hb : b < 256) where
   paired-at table (fence vms nodes) z s = refl
   paired-at table (spread vms) z s = rows-at table vms vms z s
   paired-at table (latency vms groups) z s = refl
+  paired-at table (before first second) z s = refl
 
   module _ (v n : ℕ) (m : v ≤ 256) where
     vms-small : (p : List ℕ) → wellFormed v n p ≡ true → all (λ w. ltb w 256) (vmsOf (constraintOf p)) ≡ true
@@ -186,15 +192,15 @@ no-parts : (s table : List ℕ) (at left : ℕ) → left ≤ 0 → table ≡ pai
 unfolding pairedAll partsFrom
 no-parts s table at left h = let z : left ≡ 0 = omega arith in rw z
 
-pub pairs-end : (s before table : List ℕ) (at left : ℕ) → clusterCheck s ≡ Whole → Blank before →
-    pairedAll table (partsFrom s at left) ≡ pairedAll before (partsFrom s (constraintsStart s) (constraintCount s)) → left ≤ 0 → Pairs s table
-pairs-end s before table at left w blank inv z = record { each = each }
+pub pairs-end : (s start table : List ℕ) (at left : ℕ) → clusterCheck s ≡ Whole → Blank start →
+    pairedAll table (partsFrom s at left) ≡ pairedAll start (partsFrom s (constraintsStart s) (constraintCount s)) → left ≤ 0 → Pairs s table
+pairs-end s start table at left w blank inv z = record { each = each }
   where
     each : (v u : ℕ) → v < vmCount s → u < vmCount s → getD table (v * 256 + u) 0 ≡ pick (some (spreads v u) (roomOf s .constraints)) 1 0
     each v u h k =
         let m = vms-most s w in
         ap (λ (t : List ℕ). getD t (v * 256 + u) 0) (no-parts s table at left z ∙ inv) ∙
-        all-paired-at v u (omega arith) (omega arith) (vmCount s) (nodeCount s) m before (partsFrom s (constraintsStart s) (constraintCount s)) (blank .size) (walk-start s w .sound) ∙
+        all-paired-at v u (omega arith) (omega arith) (vmCount s) (nodeCount s) m start (partsFrom s (constraintsStart s) (constraintCount s)) (blank .size) (walk-start s w .sound) ∙
         rw (blank .each (v * 256 + u), ← constraints-are s)
 
 -- the table that a call starts with

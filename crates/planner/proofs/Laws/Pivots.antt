@@ -15,12 +15,13 @@ use Rattle.records.specs.Base.{pick, all}
 use Rattle.records.specs.Room.{Room, vmOf, nowhere, onNode}
 use Rattle.records.specs.Plan.{Move, Step}
 use Rattle.records.proofs.Laws.Bools.{and-left, and-right, and-both, bool-iff, all-head, all-tail}
-use Rattle.rules.specs.Moments.{Placement, placeOf, targetOf, after, bearsAt, withVm, staying, cell, Moment, countsOn, tallyAt, phaseOf, cellsFrom, firstMoment, begun, allRunning}
+use Rattle.rules.specs.Moments.{Placement, placeOf, targetOf, atTarget, after, bearsAt, withVm, staying, cell, Moment, countsOn, tallyAt, phaseOf, cellsFrom, firstMoment, begun, allRunning}
 use Rattle.rules.specs.Orders.{some, meetsMate}
 use Rattle.rules.specs.Rules.{from, aims, soundStep}
 use Rattle.rules.proofs.Laws.Meet.{is-false}
 use Rattle.rules.specs.declared.tally.Tally.{Tally}
 use Rattle.rules.proofs.Laws.Orders.{never, Under, empty, both, meets-under, bears-under}
+use Rattle.rules.proofs.Laws.Turn.{turn-homes}
 use Rattle.rules.proofs.Laws.Adding.{joins, Joins, joins-tests, alone, empty-sound}
 use Rattle.planner.specs.Picks.{vmsIn, nodesIn, away, moving, canGo, otherGoes, useful, orElse, pivotAmong, pivotFirst, pivotStep}
 use Rattle.planner.specs.Inner.{aside, pivotNode, comer, comesTo, usefulNode}
@@ -37,7 +38,7 @@ some-more p q h (x ∷ xs) e = either (p x) (q x) (h x) (some-more p q h xs) e
     either false b g r e = rw (r e) (or-true b)
 
 -- a test of all numbers of a range
-from-at : (p : ℕ → Bool) (k n v : ℕ) → all p (from k n) ≡ true → k ≤ v → v < k + n → p v ≡ true
+pub from-at : (p : ℕ → Bool) (k n v : ℕ) → all p (from k n) ≡ true → k ≤ v → v < k + n → p v ≡ true
 unfolding from
 from-at p k zero v a l h = absurd (omega arith)
 from-at p k (suc n) v a l h =
@@ -237,8 +238,12 @@ fit-under {d} {cs} {bs} room v u e =
     rw (← with-one room d v cs)
     (bears-under room (vmOf room v) (both {v = v} {p = d} {q = d} {x = staying} {y = staying} (λ h. h) u) (ap (λ (x : Tally). bearsAt room d x (vmOf room v)) (with-one room d v bs) ∙ e))
 
-module _ (room : Room) (p q : Placement) (u : ℕ) (same : placeOf p u ≡ placeOf q u) where
-  -- a sound move of u at p is sound at q, if q has no VM more on its destination
+-- whoever is on its target in the one placement is so in the other
+abbrev Homes : Room → Placement → Placement → Type 0
+Homes room p q = (w : ℕ) → atTarget room p w ≡ true → atTarget room q w ≡ true
+
+module _ (room : Room) (p q : Placement) (u : ℕ) (same : placeOf p u ≡ placeOf q u) (homes : Homes room p q) where
+  -- a sound move of u at p is sound at q, if q has no VM more on its destination, and none less on its target
   joins-too : (d : ℕ) → Stays d q p → joins room p [] u d ≡ true → joins room q [] u d ≡ true
   unfolding joins firstMoment
   joins-too d s e =
@@ -246,7 +251,8 @@ module _ (room : Room) (p q : Placement) (u : ℕ) (same : placeOf p u ≡ place
       let under = rest-under d q p s 0 (length (room .vms)) in
       and-both (and-both (lt-ltb u (length (room .vms)) (j .vm-there)) (and-both (j .aimed) (rw (← same) (j .off))))
       (and-both (j .allows) (and-both (fit-under room u under (j .fit))
-      (ap not (is-false (meetsMate room (allRunning (firstMoment room q [])) u d) (λ m. false≢true (sym (j .apart) ∙ meets-under room u under m))))))
+      (and-both (ap not (is-false (meetsMate room (allRunning (firstMoment room q [])) u d) (λ m. false≢true (sym (j .apart) ∙ meets-under room u under m))))
+      (turn-homes room p q (moving u d ∷ []) homes (j .turn)))))
 
   goes-too : Stays (placeOf (targetOf room) u) q p → canGo room p u ≡ true → canGo room q u ≡ true
   unfolding canGo away
@@ -277,20 +283,31 @@ module _ (room : Room) (places : Placement) (v : ℕ) where
   unfolding after
   unmoved d u h = getD-set-other places v u d 0 h
 
+  -- a pivot does not bring v to its target
+  abbrev pub Aside : ℕ → Type 0
+  Aside d = placeOf (moved d) v ≡ placeOf (targetOf room) v → ⊥
+
+  -- so nobody is on its target behind it who was not before, or would not be behind another
+  homes-kept : (d : ℕ) → Aside d → (q : Placement) → ((u : ℕ) → (u ≡ v → ⊥) → placeOf q u ≡ placeOf places u) → Homes room (moved d) q
+  homes-kept d off q same w e =
+      let at = eqb-true (placeOf (moved d) w) (placeOf (targetOf room) w) e in
+      let h : w ≡ v → ⊥ = λ x. off (ap (placeOf (moved d)) (sym x) ∙ at ∙ ap (placeOf (targetOf room)) x) in
+      eq-eqb (placeOf q w) (placeOf (targetOf room) w) (same w h ∙ sym (unmoved d w h) ∙ at)
+
   module _ (none : (u : ℕ) → canGo room places u ≡ false) where
     -- a VM that can go goes to the node that v has left
-    target-left : (d u : ℕ) → (u ≡ v → ⊥) → canGo room (moved d) u ≡ true → placeOf (targetOf room) u ≡ placeOf places v
-    target-left d u h g =
+    target-left : (d : ℕ) → Aside d → (u : ℕ) → (u ≡ v → ⊥) → canGo room (moved d) u ≡ true → placeOf (targetOf room) u ≡ placeOf places v
+    target-left d off u h g =
         by-cases (ℕ-discrete (placeOf (targetOf room) u) (placeOf places v)) (λ e. e)
-        (λ n. absurd (false≢true (sym (none u) ∙ goes-too room (moved d) places u (unmoved d u h)
+        (λ n. absurd (false≢true (sym (none u) ∙ goes-too room (moved d) places u (unmoved d u h) (homes-kept d off places (λ w x. refl))
         (λ w e. by-cases (ℕ-discrete w v) (λ x. absurd (n (sym e ∙ ap (placeOf places) x))) (λ x. unmoved d w x ∙ e)) g)))
 
-    pub comes-is : (d : ℕ) → otherGoes room (after places (moving v d ∷ [])) v ≡ comesTo room (after places (moving v d ∷ [])) v (placeOf places v) (vmsIn room)
+    pub comes-is : (d : ℕ) → Aside d → otherGoes room (after places (moving v d ∷ [])) v ≡ comesTo room (after places (moving v d ∷ [])) v (placeOf places v) (vmsIn room)
     unfolding otherGoes comesTo comer
-    comes-is d =
+    comes-is d off =
         bool-iff (some (other (moved d)) (vmsIn room)) (some (coming (moved d)) (vmsIn room))
         (some-more (other (moved d)) (coming (moved d))
-        (λ u e. and-both (eq-eqb (placeOf (targetOf room) u) (placeOf places v) (target-left d u (is-other (moved d) u e) (and-right (not (eqb u v)) (canGo room (moved d) u) e))) e) (vmsIn room))
+        (λ u e. and-both (eq-eqb (placeOf (targetOf room) u) (placeOf places v) (target-left d off u (is-other (moved d) u e) (and-right (not (eqb u v)) (canGo room (moved d) u) e))) e) (vmsIn room))
         (some-more (coming (moved d)) (other (moved d)) (λ u e. and-right (eqb (placeOf (targetOf room) u) (placeOf places v)) (other (moved d) u) e) (vmsIn room))
 
   -- the node left holds the same whichever node v has gone to
@@ -304,24 +321,24 @@ module _ (room : Room) (places : Placement) (v : ℕ) where
         (sym (getD-set-same places v e 0 (rw len (j .vm-there))) ∙ ap (placeOf (set places v e)) (sym x) ∙ h)))
         (λ x. unmoved d w x ∙ sym (unmoved e w x) ∙ h)
 
-    comes-too : (d e : ℕ) → soundStep room places (moving v e ∷ []) ≡ true →
+    comes-too : (d e : ℕ) → Aside d → soundStep room places (moving v e ∷ []) ≡ true →
         comesTo room (moved d) v (placeOf places v) (vmsIn room) ≡ true → comesTo room (moved e) v (placeOf places v) (vmsIn room) ≡ true
     unfolding comesTo comer
-    comes-too d e s =
+    comes-too d e off s =
         some-more (coming (moved d)) (coming (moved e))
         (λ u c. let at = and-left (eqb (placeOf (targetOf room) u) (placeOf places v)) (other (moved d) u) c in
         let o = and-right (eqb (placeOf (targetOf room) u) (placeOf places v)) (other (moved d) u) c in
         let h = is-other (moved d) u o in
         and-both at (and-both (and-left (not (eqb u v)) (canGo room (moved d) u) o)
-        (goes-too room (moved d) (moved e) u (unmoved d u h ∙ sym (unmoved e u h)) (rw (eqb-true (placeOf (targetOf room) u) (placeOf places v) at) (left-same d e s))
+        (goes-too room (moved d) (moved e) u (unmoved d u h ∙ sym (unmoved e u h)) (homes-kept d off (moved e) (unmoved e)) (rw (eqb-true (placeOf (targetOf room) u) (placeOf places v) at) (left-same d e s))
         (and-right (not (eqb u v)) (canGo room (moved d) u) o)))) (vmsIn room)
 
-    pub same-help : ((u : ℕ) → canGo room places u ≡ false) → (d e : ℕ) → soundStep room places (moving v d ∷ []) ≡ true → soundStep room places (moving v e ∷ []) ≡ true →
+    pub same-help : ((u : ℕ) → canGo room places u ≡ false) → (d e : ℕ) → Aside d → Aside e → soundStep room places (moving v d ∷ []) ≡ true → soundStep room places (moving v e ∷ []) ≡ true →
         otherGoes room (after places (moving v d ∷ [])) v ≡ otherGoes room (after places (moving v e ∷ [])) v
-    same-help none d e s r =
-        comes-is none d ∙
-        bool-iff (comesTo room (moved d) v (placeOf places v) (vmsIn room)) (comesTo room (moved e) v (placeOf places v) (vmsIn room)) (comes-too d e r) (comes-too e d s) ∙
-        sym (comes-is none e)
+    same-help none d e x y s r =
+        comes-is none d x ∙
+        bool-iff (comesTo room (moved d) v (placeOf places v) (vmsIn room)) (comesTo room (moved e) v (placeOf places v) (vmsIn room)) (comes-too d e x r) (comes-too e d y s) ∙
+        sym (comes-is none e y)
 
 -- ---- the node of the first useful pivot
 
@@ -338,11 +355,18 @@ module _ (room : Room) (places : Placement) (v : ℕ) where
       go true e h later = e
       go false e h later = later h
 
+  node-aside-at : (d : ℕ) → d ≡ pivotNode room places v (nodesIn room) → d < length (room .nodes) → aside room places v d ≡ true
+  node-aside-at d e h = rw (← e) at (node-aside (nodesIn room) (rw (← e) h))
+
   pub pivot-node-sound : (d : ℕ) → d ≡ pivotNode room places v (nodesIn room) → d < length (room .nodes) → soundStep room places (moving v d ∷ []) ≡ true
   unfolding aside
   pivot-node-sound d e h =
-      and-right (not (eqb d (placeOf (targetOf room) v))) (soundStep room places (moving v d ∷ []))
-      (rw (← e) at (node-aside (nodesIn room) (rw (← e) h)))
+      and-right (not (eqb d (placeOf (targetOf room) v))) (soundStep room places (moving v d ∷ [])) (node-aside-at d e h)
+
+  pub pivot-node-off : (d : ℕ) → d ≡ pivotNode room places v (nodesIn room) → d < length (room .nodes) → d ≡ placeOf (targetOf room) v → ⊥
+  unfolding aside
+  pivot-node-off d e h =
+      eqb-false d (placeOf (targetOf room) v) (not-true (eqb d (placeOf (targetOf room) v)) (and-left (not (eqb d (placeOf (targetOf room) v))) _ (node-aside-at d e h)))
 
   -- it is the first useful one if every such node is useful
   first-aside : ((d : ℕ) → useful room places v d ≡ aside room places v d) → (ds : List ℕ) → pivotNode room places v ds ≡ usefulNode room places v ds
@@ -381,18 +405,28 @@ module _ (room : Room) (places : Placement) (v : ℕ) where
   module _ (len : length places ≡ length (room .vms)) (none : (u : ℕ) → canGo room places u ≡ false) (d : ℕ) (then : Placement) (ok : Bool)
       (at : d ≡ pivotNode room places v (nodesIn room)) (m : then ≡ set places v d) (c : ok ≡ comesTo room then v (placeOf places v) (vmsIn room))
       (a : away room places v ≡ true) (o : onNode (placeOf places v) ≡ true) (h : d < length (room .nodes)) where
+    -- a move aside does not bring v to its target
+    pub aside-off : (e : ℕ) → aside room places v e ≡ true → Aside room places v e
+    unfolding after aside
+    aside-off e s q =
+        let j = sound-alone room places v e (and-right (not (eqb e (placeOf (targetOf room) v))) _ s) in
+        eqb-false e (placeOf (targetOf room) v) (not-true (eqb e (placeOf (targetOf room) v)) (and-left (not (eqb e (placeOf (targetOf room) v))) _ s))
+        (sym (getD-set-same places v e 0 (rw len (j .vm-there))) ∙ q)
+
     -- the pivot to the node found tells of the others
-    helps-as : (e : ℕ) → soundStep room places (moving v e ∷ []) ≡ true → otherGoes room (after places (moving v e ∷ [])) v ≡ ok
-    unfolding after
+    helps-as : (e : ℕ) → aside room places v e ≡ true → otherGoes room (after places (moving v e ∷ [])) v ≡ ok
+    unfolding after aside
     helps-as e s =
-        same-help room places v len none e d s (pivot-node-sound d at h) ∙ comes-is room places v none d ∙
+        let there = node-aside-at d at h in
+        same-help room places v len none e d (aside-off e s) (aside-off d there) (and-right (not (eqb e (placeOf (targetOf room) v))) _ s) (and-right (not (eqb d (placeOf (targetOf room) v))) _ there) ∙
+        comes-is room places v none d (aside-off d there) ∙
         ap (λ (p : Placement). comesTo room p v (placeOf places v) (vmsIn room)) (sym m) ∙ sym c
 
     useful-as : (e : ℕ) → useful room places v e ≡ (aside room places v e && ok)
     unfolding aside
     useful-as e =
         useful-is room places v e ∙ rw (a, o) (given (aside room places v e) (otherGoes room (after places (moving v e ∷ [])) v)
-        (λ s. helps-as e (and-right (not (eqb e (placeOf (targetOf room) v))) (soundStep room places (moving v e ∷ [])) s)))
+        (λ s. helps-as e s))
       where
         given : (b g : Bool) → (b ≡ true → g ≡ ok) → (b && g) ≡ (b && ok)
         given true g e = e refl

@@ -38,6 +38,8 @@ use Rattle.rules.proofs.Laws.Runs.{sound-all-named, run-ends, run-obeys, sound-
 use Rattle.rules.proofs.Laws.Sources.{names-places}
 use Rattle.rules.proofs.Laws.Spreads.{stays-apart}
 use Rattle.rules.proofs.Laws.Running.{keeps-running}
+use Rattle.rules.proofs.Laws.Waiting.{run-turn, waits-its-turn}
+use Rattle.rules.proofs.Laws.Bound.{first-there}
 use Rattle.rules.proofs.Laws.Verdicts.{current-length, off-some, off-home}
 use Rattle.planner.specs.Picks.{away, directStep, pivotStep, orElse, nextStep, Picks}
 use Rattle.planner.specs.Answer.{stepsFor, madeOf, outcome, answerReserve, answerCluster, answerTarget, answerOf, bufferOf, frontOf, buildNumber, packedAnswer, leastBuffer}
@@ -194,10 +196,12 @@ module _ (reserve : ℕ) (cluster before : List ℕ) (t : Taken reserve cluster 
         named = rw e (sound-all-named (roomAt reserve cluster) (currentOf (roomAt reserve cluster)) (stepsFor (roomAt reserve cluster)) steps-sound);
         well-sourced = rw e steps-sourced;
         obeys = rw e (λ last run. run-obeys steps-sound (current-length (roomAt reserve cluster)) run);
+        in-turn = rw e (λ last run. run-turn steps-sound (current-length (roomAt reserve cluster)) run);
         reaches = rw e (λ last run. ends-there run);
         auditor = rw e (stays-within (roomAt reserve cluster) (currentOf (roomAt reserve cluster)) (stepsFor (roomAt reserve cluster)) nodes-few steps-sound (current-length (roomAt reserve cluster)));
         apart = rw e (stays-apart (roomAt reserve cluster) (currentOf (roomAt reserve cluster)) (stepsFor (roomAt reserve cluster)) steps-sound (current-length (roomAt reserve cluster)));
         running = rw e (keeps-running (roomAt reserve cluster) (currentOf (roomAt reserve cluster)) (stepsFor (roomAt reserve cluster)) nodes-few (sound-all-named (roomAt reserve cluster) (currentOf (roomAt reserve cluster)) (stepsFor (roomAt reserve cluster)) steps-sound) (current-length (roomAt reserve cluster)));
+        waits = rw e (waits-its-turn (roomAt reserve cluster) (currentOf (roomAt reserve cluster)) (stepsFor (roomAt reserve cluster)) (first-there reserve cluster (t .cluster-whole)) steps-sound (current-length (roomAt reserve cluster)));
         none = λ z. e ∙ empty (stepsFor (roomAt reserve cluster)) (let b = budget-none (roomAt reserve cluster) (currentOf (roomAt reserve cluster)) z in omega arith);
         short = λ z. rw e (let b = budget-most (roomAt reserve cluster) (currentOf (roomAt reserve cluster)) z in omega arith);
         version = ap versionOf p ∙ version-is (stepsFor (roomAt reserve cluster)) steps-tell steps-shaped;
@@ -277,6 +281,7 @@ module _ (reserve : ℕ) (cluster before : List ℕ) (t : Taken reserve cluster 
         let runs : EveryRun (roomAt reserve cluster) (currentOf (roomAt reserve cluster)) (stepsOf plan) =
         rw plan-steps (record {
           obeys = λ last run. run-obeys steps-sound (current-length (roomAt reserve cluster)) run;
+          in-turn = λ last run. run-turn steps-sound (current-length (roomAt reserve cluster)) run;
           ends = λ last run. ap (home (roomAt reserve cluster)) (ends-there run) ∙ h;
         }) in
         record { written = w; runs = runs; accepted = accepted-is runs ∙ ap Verdict.Accepted (sym (w .cost)) }
@@ -292,6 +297,7 @@ module _ (reserve : ℕ) (cluster before : List ℕ) (t : Taken reserve cluster 
             sound = steps-sound;
             well-sourced = steps-sourced;
             obeys = λ last run. run-obeys steps-sound (current-length (roomAt reserve cluster)) run;
+            in-turn = λ last run. run-turn steps-sound (current-length (roomAt reserve cluster)) run;
             away = λ last run. off-some (roomAt reserve cluster) last (ap (home (roomAt reserve cluster)) (ends-there run) ∙ h);
           }));
         }

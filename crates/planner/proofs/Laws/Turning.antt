@@ -1,6 +1,6 @@
 -- Laws on the pass that makes the direct step: the array of destinations and the sums, VM by VM.
 use Prim.Native.Nat.{ℕ, suc, _+_, _-_, _*_, _≤_, _<_}
-use mathlib.Core.Bool.{Bool, true, false, not, _&&_, and-false, or-true}
+use mathlib.Core.Bool.{Bool, true, false, not, _&&_, _||_, false≢true, and-false, or-true}
 use mathlib.Core.List.{List, [], _∷_, _++_}
 use mathlib.Core.Logic.{⊎-elim, by-cases}
 use mathlib.Core.Path.{_≡_, refl, sym, ap, ap₂, _∙_}
@@ -11,28 +11,31 @@ use native.Mathlib.Omega.{arith}
 use lib.ListN.{length, getD, set, replicate, length-set}
 use lib.Seq.{set-getD, getD-set-same, getD-set-other}
 use lib.Dec.{ltb, eqb}
-use borrow.Author.Tests.{lt-ltb, ltb-true, eq-eqb, ne-eqb, eqb-false, not-true}
+use borrow.Author.Tests.{lt-ltb, ltb-true, eq-eqb, ne-eqb, eqb-true, eqb-false, not-true}
 use Rattle.records.specs.Base.{pick, all}
 use Rattle.records.specs.Room.{roomOf, roomAt, vmOf, nowhere, nodeCount, vmCount, clusterCheck}
 use Rattle.records.specs.Plan.{Step}
 use Rattle.records.specs.declared.faults.ClusterCheck.the-variants.{Whole}
-use Rattle.records.proofs.Laws.Bools.{and-both}
+use Rattle.records.proofs.Laws.Bools.{and-both, all-more}
 use Rattle.records.proofs.Laws.Cluster.{vms-most, vm-target-place}
 use Rattle.records.proofs.Laws.Reserve.{room-nodes, room-vms}
 use Rattle.records.proofs.Laws.Rows.{place-either}
 use Rattle.rules.specs.Moments.{placeOf, targetOf, emptyTally, withVm, tallyAt, firstMoment, allRunning}
-use Rattle.rules.specs.Rules.{from, aims, soundStep}
+use Rattle.rules.specs.Rules.{from, aims, hasMove, inTurn, soundStep}
 use Rattle.rules.specs.Inner.{NeedOf, held, destsFrom, busyFrom, Loads}
 use Rattle.rules.specs.declared.tally.Need.{Need}
 use Rattle.rules.specs.declared.tally.Tally.{Tally}
 use Rattle.rules.proofs.Laws.Reserve.{vm-same, need-same, moment-same, tally-same}
 use Rattle.rules.proofs.Laws.Adding.{joins, Joins, joins-tests, empty-sound, all-snoc, tally-there, tally-else}
-use Rattle.rules.proofs.Laws.Fit.{running-is}
+use Rattle.rules.specs.Orders.{some}
+use Rattle.rules.proofs.Laws.Sound.{sound-turn}
+use Rattle.rules.proofs.Laws.Turn.{has-snoc}
+use Rattle.rules.proofs.Laws.Fit.{running-is, held-at}
 use Rattle.rules.proofs.Laws.Places.{target-there}
-use Rattle.rules.proofs.Laws.Sound.{all-more}
 use Rattle.rules.proofs.Laws.Targets.{no-moves, dests-none}
 use Rattle.planner.specs.Picks.{moving, away, joined, joinedAll, directStep}
-use Rattle.planner.specs.Inner.{Light, joinsIn, goalOf}
+use Rattle.planner.specs.Inner.{heldBack, Light, joinsIn, goalOf}
+use Rattle.planner.proofs.Laws.Waits.{turn-added}
 use Rattle.planner.proofs.Laws.Joining.{with-is, dests-longer, dests-above, joins-is, longer-sound}
 
 -- before VM v: the step of the VMs below it, its destinations and its sums, and what is still to be joined
@@ -41,6 +44,7 @@ pub record Directing (reserve : ℕ) (s places dests : List ℕ) (v : ℕ) (sums
   pub array : dests ≡ destsFrom step
   pub sound : soundStep (roomAt reserve s) (held s places) step ≡ true
   pub below : all (λ move. ltb (move .vm) v) step ≡ true
+  pub outs : (u : ℕ) → hasMove step u ≡ true → away (roomAt reserve s) (held s places) u ≡ true
   pub left : joinedAll (roomAt reserve s) (held s places) step (from v (vmCount s - v)) ≡ directStep (roomAt reserve s) (held s places)
   pub size : length sums ≡ 256
   pub each : (d : ℕ) → d < 64 → getD sums d emptyTally ≡ tallyAt (roomAt reserve s) d (allRunning (firstMoment (roomAt reserve s) (held s places) step))
@@ -58,7 +62,7 @@ rest-tally s places dests sums d e l w h =
 
 pub directing-start : (reserve : ℕ) (s places dests : List ℕ) (sums : List Tally) → dests ≡ replicate 256 64 → Loads s places dests sums → clusterCheck s ≡ Whole →
     Directing reserve s places dests 0 sums
-unfolding directStep all
+unfolding directStep all hasMove some
 directing-start reserve s places dests sums e l w =
     let z : vmCount s + 0 ≡ vmCount s = omega arith in
     record {
@@ -66,6 +70,7 @@ directing-start reserve s places dests sums e l w =
       array = e ∙ sym dests-none;
       sound = empty-sound (roomAt reserve s) (held s places);
       below = refl;
+      outs = λ u h. absurd (false≢true h);
       left = rw (sub-zero (vmCount s), room-vms reserve s);
       size = l .size;
       each = λ d h. rw (tally-same reserve (roomOf s), moment-same reserve (roomOf s) (held s places) []) (rest-tally s places dests sums d e l w h);
@@ -111,12 +116,20 @@ module _ (reserve : ℕ) (s places dests : List ℕ) (v d to : ℕ) (sums : List
       (λ x. rw (target-is, eq-eqb d nowhere x) (or-true (ltb d (length (roomAt reserve s .nodes)))))
       (place-either (nodeCount s) d (rw e (vm-target-place s v w h)))
 
+  out-is : eqb (getD places v 0) d ≡ false → away (roomAt reserve s) (held s places) v ≡ true
+  unfolding away
+  out-is o = rw (target-is, held-at s places v h, o)
+
   tally-is : d < 64 → getD sums d emptyTally ≡ tallyAt (roomAt reserve s) d (allRunning (firstMoment (roomAt reserve s) (held s places) (inv .step)))
   tally-is l = inv .each d l
 
+  -- off its place, that is off its target, the VM is in turn exactly if it is not held back
+  turn-is : eqb (getD places v 0) d ≡ false → inTurn (roomAt reserve s) (held s places) (inv .step ++ (moving v d ∷ [])) ≡ not (heldBack (roomAt reserve s) (held s places) v)
+  turn-is o = turn-added (roomAt reserve s) (held s places) (inv .step) v d (inv .outs) (sound-turn (roomAt reserve s) (held s places) (inv .step) (inv .sound)) (out-is o)
+
   -- the whole step is sound with the move exactly if the move joins
   test-is : soundStep (roomAt reserve s) (held s places) (inv .step ++ (moving v d ∷ [])) ≡ joinsIn reserve s places dests (getD sums d emptyTally) v d
-  test-is = longer-sound reserve s places dests (inv .step) (getD sums d emptyTally) v d w (inv .array) (inv .sound) tally-is h aimed (inv .below)
+  test-is = longer-sound reserve s places dests (inv .step) (getD sums d emptyTally) v d w (inv .array) (inv .sound) tally-is h aimed turn-is (inv .below)
 
   joined-is : joined (roomAt reserve s) (held s places) (inv .step) v ≡
       pick (not (eqb (placeOf (held s places) v) d) && soundStep (roomAt reserve s) (held s places) (inv .step ++ (moving v d ∷ []))) (inv .step ++ (moving v d ∷ [])) (inv .step)
@@ -157,6 +170,7 @@ module _ (reserve : ℕ) (s places dests : List ℕ) (v d to : ℕ) (sums : List
       array = ap₂ (λ (l : List ℕ) (i : ℕ). set l v i) (inv .array) to-d ∙ sym (dests-longer (inv .step) v d (inv .below));
       sound = test-is ∙ q;
       below = all-snoc (λ move. ltb (move .vm) (v + 1)) (inv .step) (moving v d) ∙ and-both below-more (lt-ltb v (v + 1) (omega arith));
+      outs = outs;
       left = next-left (inv .step ++ (moving v d ∷ [])) (joined-is ∙ rw (off, test-is, q));
       size = length-set sums to sum ∙ inv .size;
       each = each;
@@ -169,13 +183,21 @@ module _ (reserve : ℕ) (s places dests : List ℕ) (v d to : ℕ) (sums : List
 
         j : Joins (roomAt reserve s) (held s places) (inv .step) v d
         j = joins-tests (roomAt reserve s) (held s places) (inv .step) v d
-            (sym (joins-is reserve s places dests (inv .step) (getD sums d emptyTally) v d w (inv .array) (inv .sound) tally-is h aimed) ∙ q)
+            (sym (joins-is reserve s places dests (inv .step) (getD sums d emptyTally) v d w (inv .array) (inv .sound) tally-is h aimed turn-is) ∙ q)
 
         away-from : d ≡ placeOf (held s places) v → ⊥
         away-from = eqb-false d (placeOf (held s places) v) (not-true (eqb d (placeOf (held s places) v)) (j .off))
 
         off : eqb (placeOf (held s places) v) d ≡ false
         off = ne-eqb (placeOf (held s places) v) d (λ p. away-from (sym p))
+
+        outs : (u : ℕ) → hasMove (inv .step ++ (moving v d ∷ [])) u ≡ true → away (roomAt reserve s) (held s places) u ≡ true
+        outs u e = either (hasMove (inv .step) u) (eqb v u) refl refl (sym (has-snoc (inv .step) (moving v d) u) ∙ e)
+          where
+            either : (a b : Bool) → hasMove (inv .step) u ≡ a → eqb v u ≡ b → (a || b) ≡ true → away (roomAt reserve s) (held s places) u ≡ true
+            either true b x y e = inv .outs u x
+            either false true x y e = rw (← eqb-true v u y) (out-is (rw (held-at s places v h) at off))
+            either false false x y e = absurd (false≢true e)
 
         each : (i : ℕ) → i < 64 → getD (set sums to sum) i emptyTally ≡ tallyAt (roomAt reserve s) i (allRunning (firstMoment (roomAt reserve s) (held s places) (inv .step ++ (moving v d ∷ []))))
         each i l =
@@ -196,6 +218,7 @@ module _ (reserve : ℕ) (s places dests : List ℕ) (v d to : ℕ) (sums : List
       array = ap (set dests v) (to-none ∙ sym free) ∙ set-getD dests v 0 ∙ inv .array;
       sound = inv .sound;
       below = below-more;
+      outs = inv .outs;
       left = next-left (inv .step) (joined-is ∙ rw (test-is, q, and-false (not (eqb (placeOf (held s places) v) d))));
       size = length-set sums to sum ∙ inv .size;
       each = λ i l. getD-set-other sums to i sum emptyTally (λ m. let g = to-none in omega arith) ∙ inv .each i l;

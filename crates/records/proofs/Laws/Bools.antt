@@ -54,6 +54,11 @@ module _ {A : Type 0} (p q : A → Bool) where
   all-same e [] = refl
   all-same e (x ∷ xs) = simp (e x, all-same e xs)
 
+  pub all-more : ((x : A) → p x ≡ true → q x ≡ true) → (xs : List A) → all p xs ≡ true → all q xs ≡ true
+  unfolding all
+  all-more h [] e = e
+  all-more h (x ∷ xs) e = and-both (h x (and-left (p x) (all p xs) e)) (all-more h xs (and-right (p x) (all p xs) e))
+
   pub all-and : (xs : List A) → all (λ x. p x && q x) xs ≡ (all p xs && all q xs)
   unfolding all
   all-and [] = refl

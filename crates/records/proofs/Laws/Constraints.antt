@@ -8,13 +8,13 @@ use native.Mathlib.Decide.{decLt, ℕ-discrete}
 use native.Mathlib.Omega.{arith}
 use lib.ListN.{length, getD, take, drop}
 use lib.Dec.{ltb, leb, eqb}
-use borrow.Author.Tests.{eq-eqb, ne-eqb, le-leb, lt-leb, leb-true, leb-false, eqb-true}
+use borrow.Author.Tests.{eq-eqb, ne-eqb, lt-ltb, le-ltb, le-leb, lt-leb, leb-true, leb-false, eqb-true}
 use Rattle.records.specs.Base.{pick, all}
 use Rattle.records.specs.Bytes.{byteAt, be16}
-use Rattle.records.specs.Room.{kindOf, vmsOf, nodesOf, groupsOf, listOk, apart, vmsAt, vmsEnd, nodesAt, nodesEnd, groupsFrom, groupsEnd, kindAt, othersAt, constraintOf, listsEnd, constraintOk, filled, wellFormed}
-use Rattle.records.specs.Inner.{unmarked, listed, groupsRead, nodesOk, groupsOk, othersOk}
+use Rattle.records.specs.Room.{kindOf, vmsOf, nodesOf, groupsOf, firstOf, secondOf, listOk, apart, vmsAt, vmsEnd, nodesAt, nodesEnd, groupsFrom, groupsEnd, kindAt, othersAt, firstAt, secondAt, pairEnd, constraintOf, listsEnd, constraintOk, filled, wellFormed}
+use Rattle.records.specs.Inner.{unmarked, listed, groupsRead, nodesOk, groupsOk, othersOk, pairOk}
 use Rattle.records.specs.declared.constraints.Kind.{Kind}
-use Rattle.records.specs.declared.constraints.Kind.the-variants.{Ban, Fence, Spread, Latency}
+use Rattle.records.specs.declared.constraints.Kind.the-variants.{Ban, Fence, Spread, Latency, Before}
 use Rattle.records.specs.declared.lists.Listed.{Listed}
 use Rattle.records.specs.declared.lists.Listed.the-variants.{Ends, Bad}
 use Rattle.records.proofs.Laws.Bools.{and-left, and-right}
@@ -123,6 +123,30 @@ module _ (limit at kind : ℕ) (p : List ℕ) (e : kind ≡ byteAt p 2) where
   kind-unknown a b c d =
       rw (ne-eqb (byteAt p 2) 3 (λ q. a (e ∙ q)), ne-eqb (byteAt p 2) 4 (λ q. b (e ∙ q)), ne-eqb (byteAt p 2) 1 (λ q. c (e ∙ q)), ne-eqb (byteAt p 2) 2 (λ q. d (e ∙ q)))
 
+-- ---- two VMs
+
+module _ (v : ℕ) (p : List ℕ) where
+  pub pair-long : (length p ≡ 5 → ⊥) → false ≡ pairOk v p
+  unfolding pairOk
+  pair-long h = rw (ne-eqb pairEnd (length p) (λ q. h (sym q)))
+
+  module _ (first : ℕ) (f : first ≡ byteAt p 3) where
+    pub pair-first : v ≤ first → false ≡ pairOk v p
+    unfolding pairOk
+    pair-first h = let w : v ≤ byteAt p 3 = omega arith in rw (le-ltb (byteAt p 3) v w, and-false)
+
+    module _ (second : ℕ) (g : second ≡ byteAt p 4) where
+      pub pair-second : v ≤ second → false ≡ pairOk v p
+      unfolding pairOk
+      pair-second h = let w : v ≤ byteAt p 4 = omega arith in rw (le-ltb (byteAt p 4) v w, and-false, and-false)
+
+      pub pair-differ : length p ≡ 5 → first < v → second < v → not (eqb first second) ≡ pairOk v p
+      unfolding pairOk
+      pair-differ l a b =
+          let a′ : byteAt p 3 < v = omega arith in
+          let b′ : byteAt p 4 < v = omega arith in
+          rw (l, lt-ltb (byteAt p 3) v a′, lt-ltb (byteAt p 4) v b′, f, g)
+
 -- ---- the whole constraint
 
 fills-all : (o end len : ℕ) (v w : Bool) → o ≤ end → (eqb end len && (v && w)) ≡ ((leb o len && v) && (eqb end len && w))
@@ -162,28 +186,42 @@ module _ (v n : ℕ) (p : List ℕ) where
   formed-nodes (inl k) = simp k (fills-all (othersAt p) (nodesEnd p (othersAt p)) (length p) (listOk v (vmsAt p 3)) (listOk n (nodesAt p (othersAt p))) (nodes-on p (othersAt p)))
   formed-nodes (inr k) = simp k (fills-all (othersAt p) (nodesEnd p (othersAt p)) (length p) (listOk v (vmsAt p 3)) (listOk n (nodesAt p (othersAt p))) (nodes-on p (othersAt p)))
 
-  formed-unknown : (kindAt p ≡ 1 → ⊥) → (kindAt p ≡ 2 → ⊥) → (kindAt p ≡ 3 → ⊥) → (kindAt p ≡ 4 → ⊥) →
+  formed-unknown : (kindAt p ≡ 1 → ⊥) → (kindAt p ≡ 2 → ⊥) → (kindAt p ≡ 3 → ⊥) → (kindAt p ≡ 4 → ⊥) → (kindAt p ≡ 5 → ⊥) →
       wellFormed v n p ≡ (vm-list-ok && othersOk n p (othersAt p))
   unfolding wellFormed filled othersOk
-  formed-unknown a b c d =
+  formed-unknown a b c d f =
       simp (ne-eqb (kindAt p) 1 a, ne-eqb (kindAt p) 2 b, ne-eqb (kindAt p) 3 c, ne-eqb (kindAt p) 4 d, and-false)
       (by-cases (decLt (kindAt p) 1)
       (λ q. simp (lt-leb 1 (kindAt p) q))
-      (λ q. let h : 4 < kindAt p = omega arith in simp (lt-leb (kindAt p) 4 h, and-false)))
+      (λ q. let h : 5 < kindAt p = omega arith in simp (lt-leb (kindAt p) 5 h, and-false)))
 
-  well-formed-is : wellFormed v n p ≡ (vm-list-ok && othersOk n p (othersAt p))
-  well-formed-is =
+  -- of two VMs, and of lists
+  pair-formed-is : kindAt p ≡ 5 → wellFormed v n p ≡ pairOk v p
+  unfolding wellFormed filled listsEnd constraintOf constraintOk pairOk
+  pair-formed-is k = simp k
+
+  well-formed-is : (kindAt p ≡ 5 → ⊥) → wellFormed v n p ≡ (vm-list-ok && othersOk n p (othersAt p))
+  well-formed-is f =
       by-cases (ℕ-discrete (kindAt p) 1) (λ k. formed-nodes (inl k)) λ a.
       by-cases (ℕ-discrete (kindAt p) 2) (λ k. formed-nodes (inr k)) λ b.
       by-cases (ℕ-discrete (kindAt p) 3) formed-spread λ c.
       by-cases (ℕ-discrete (kindAt p) 4) formed-latency λ d.
-      formed-unknown a b c d
+      formed-unknown a b c d f
 
   pub constraint-short : length p < 3 → false ≡ wellFormed v n p
-  unfolding vm-list-ok othersAt vmsEnd
-  constraint-short h = let w : length p < 5 + be16 p 3 = omega arith in sym (well-formed-is ∙ simp (lt-leb (5 + be16 p 3) (length p) w))
+  unfolding vm-list-ok othersAt vmsEnd pairOk
+  constraint-short h =
+      by-cases (ℕ-discrete (kindAt p) 5)
+      (λ k. sym (pair-formed-is k ∙ simp (ne-eqb pairEnd (length p) (λ q. omega arith))))
+      (λ k. let w : length p < 5 + be16 p 3 = omega arith in sym (well-formed-is k ∙ simp (lt-leb (5 + be16 p 3) (length p) w)))
 
-  module _ (r : Listed) (f : r ≡ listed v p 5 (be16 p 3)) where
+  pub constraint-pair : (kind : ℕ) (ok : Bool) → kind ≡ byteAt p 2 → ok ≡ pairOk v p → kind ≡ 5 → ok ≡ wellFormed v n p
+  constraint-pair kind ok e o k = o ∙ sym (pair-formed-is (sym e ∙ k))
+
+  module _ (kind : ℕ) (r : Listed) (e : kind ≡ byteAt p 2) (l : kind ≡ 5 → ⊥) (f : r ≡ listed v p 5 (be16 p 3)) where
+    lists : kindAt p ≡ 5 → ⊥
+    lists q = l (e ∙ q)
+
     pub constraint-bad : r ≡ Bad → false ≡ wellFormed v n p
     unfolding vm-list-ok othersAt vmsEnd vmsAt
     constraint-bad g = go (leb (5 + be16 p 3) (length p)) (listOk v (take (be16 p 3) (drop 5 p))) refl refl
@@ -192,14 +230,14 @@ module _ (v n : ℕ) (p : List ℕ) where
         go true true x y =
             let w : r ≡ Ends (5 + be16 p 3) = f ∙ listed-pick v 5 (be16 p 3) p true true x y in
             let z : _≡_ {A = ℕ} 0 1 = cc in absurd (omega arith)
-        go true false x y = sym (well-formed-is ∙ simp (x, y))
-        go false b x y = sym (well-formed-is ∙ simp x)
+        go true false x y = sym (well-formed-is lists ∙ simp (x, y))
+        go false b x y = sym (well-formed-is lists ∙ simp x)
 
     pub constraint-others : (at : ℕ) (ok : Bool) → ok ≡ othersOk n p at → r ≡ Ends at → ok ≡ wellFormed v n p
     unfolding vm-list-ok othersAt vmsEnd vmsAt
     constraint-others at ok o g =
         let w = found v 5 (be16 p 3) at p r f g in
-        o ∙ ap (othersOk n p) (w .ends) ∙ sym (well-formed-is ∙ simp (le-leb (5 + be16 p 3) (length p) (w .fits), w .sound))
+        o ∙ ap (othersOk n p) (w .ends) ∙ sym (well-formed-is lists ∙ simp (le-leb (5 + be16 p 3) (length p) (w .fits), w .sound))
 
 -- ---- reading a constraint whose lists fill it
 
@@ -208,38 +246,48 @@ module _ (p : List ℕ) (w : filled p ≡ true) where
   unfolding filled
   fills =
       eqb-true (listsEnd p) (length p)
-      (and-right (leb (kindAt p) 4) _ (and-right (leb 1 (kindAt p)) _ w))
+      (and-right (leb (kindAt p) 5) _ (and-right (leb 1 (kindAt p)) _ w))
 
   kind-least : 1 ≤ kindAt p
   unfolding filled
   kind-least = leb-true 1 (kindAt p) (and-left (leb 1 (kindAt p)) _ w)
 
-  kind-most : kindAt p ≤ 4
+  kind-most : kindAt p ≤ 5
   unfolding filled
-  kind-most = leb-true (kindAt p) 4 (and-left (leb (kindAt p) 4) _ (and-right (leb 1 (kindAt p)) _ w))
+  kind-most = leb-true (kindAt p) 5 (and-left (leb (kindAt p) 5) _ (and-right (leb 1 (kindAt p)) _ w))
 
-  -- its kind byte and its VM list lie within it
-  pub others-within : othersAt p ≤ length p
+  -- its kind byte lies within it, and so does its VM list or its two VMs
+  others-within : kindAt p < 5 → othersAt p ≤ length p
   unfolding listsEnd
-  others-within =
+  others-within m =
       let e = fills in
       by-cases (ℕ-discrete (kindAt p) 3) (λ k. let f : othersAt p ≡ length p = simp k at e in omega arith) λ a.
       by-cases (ℕ-discrete (kindAt p) 4)
       (λ k. let f : groupsEnd p (othersAt p + 1) (byteAt p (othersAt p)) ≡ length p = simp k at e in
       let o = groups-on p (othersAt p + 1) (byteAt p (othersAt p)) in omega arith) λ b.
-      let f : nodesEnd p (othersAt p) ≡ length p = simp (ne-eqb (kindAt p) 3 a, ne-eqb (kindAt p) 4 b) at e in omega arith
+      let f : nodesEnd p (othersAt p) ≡ length p = simp (ne-eqb (kindAt p) 3 a, ne-eqb (kindAt p) 4 b, ne-eqb (kindAt p) 5 (λ q. omega arith)) at e in omega arith
 
-  pub vms-at : vmsOf (constraintOf p) ≡ vmsAt p 3
+  pub others-reach : kindAt p < 5 → (n : ℕ) → n ≡ be16 p 3 → 5 + n ≤ length p
+  others-reach m n e = let o = others-within m in omega arith
+
+  pair-within : kindAt p ≡ 5 → length p ≡ 5
+  unfolding listsEnd
+  pair-within k = let f : pairEnd ≡ length p = simp k at fills in omega arith
+
+  pub kind-within : 5 ≤ length p
+  kind-within =
+      by-cases (decLt (kindAt p) 5)
+      (λ m. let o = others-within m in omega arith)
+      (λ m. let l = kind-most in let o = pair-within (omega arith) in omega arith)
+
+  vms-at : kindAt p < 5 → vmsOf (constraintOf p) ≡ vmsAt p 3
   unfolding constraintOf vmsOf
-  vms-at =
+  vms-at m =
+      let l = kind-least in
       by-cases (ℕ-discrete (kindAt p) 1) (λ k. simp k) λ a.
       by-cases (ℕ-discrete (kindAt p) 2) (λ k. simp k) λ b.
       by-cases (ℕ-discrete (kindAt p) 3) (λ k. simp k) λ c.
-      simp (ne-eqb (kindAt p) 1 a, ne-eqb (kindAt p) 2 b, ne-eqb (kindAt p) 3 c)
-
-  pub vms-part : (end : ℕ) → end ≡ othersAt p → take (end - 5) (drop 5 p) ≡ vmsOf (constraintOf p)
-  unfolding vmsAt
-  vms-part end e = let f : end - 5 ≡ be16 p 3 = omega arith in rw (vms-at, f)
+      let k : kindAt p ≡ 4 = omega arith in simp k
 
   module _ (kind : ℕ) (e : kind ≡ byteAt p 2) where
     pub is-ban : kind ≡ 1 → Ban ≡ kindOf (constraintOf p)
@@ -254,9 +302,23 @@ module _ (p : List ℕ) (w : filled p ≡ true) where
     unfolding constraintOf kindOf
     is-spread k = let q : byteAt p 2 ≡ 3 = cc in simp q
 
-    pub is-latency : (kind ≡ 1 → ⊥) → (kind ≡ 2 → ⊥) → (kind ≡ 3 → ⊥) → Latency ≡ kindOf (constraintOf p)
+    pub is-latency : kind ≡ 4 → Latency ≡ kindOf (constraintOf p)
     unfolding constraintOf kindOf
-    is-latency a b c = rw (ne-eqb (byteAt p 2) 1 (λ q. a (e ∙ q)), ne-eqb (byteAt p 2) 2 (λ q. b (e ∙ q)), ne-eqb (byteAt p 2) 3 (λ q. c (e ∙ q)))
+    is-latency k = let q : byteAt p 2 ≡ 4 = cc in simp q
+
+    pub is-before : (kind ≡ 1 → ⊥) → (kind ≡ 2 → ⊥) → (kind ≡ 3 → ⊥) → (kind ≡ 4 → ⊥) → Before ≡ kindOf (constraintOf p)
+    unfolding constraintOf kindOf
+    is-before a b c d =
+        rw (ne-eqb (byteAt p 2) 1 (λ q. a (e ∙ q)), ne-eqb (byteAt p 2) 2 (λ q. b (e ∙ q)), ne-eqb (byteAt p 2) 3 (λ q. c (e ∙ q)), ne-eqb (byteAt p 2) 4 (λ q. d (e ∙ q)))
+
+    -- a constraint of lists has its VM list in front of the others
+    pub vms-part : kind < 5 → (end : ℕ) → end ≡ othersAt p → take (end - 5) (drop 5 p) ≡ vmsOf (constraintOf p)
+    unfolding vmsAt
+    vms-part h end o = let f : end - 5 ≡ be16 p 3 = omega arith in let m : kindAt p < 5 = omega arith in rw (vms-at m, f)
+
+    pub vms-none : 5 ≤ kind → [] ≡ vmsOf (constraintOf p)
+    unfolding constraintOf vmsOf
+    vms-none h = let l = kind-most in let q : byteAt p 2 ≡ 5 = omega arith in simp q
 
     -- a ban or a fence ends with its node list
     module _ (h : kind < 3) where
@@ -286,7 +348,32 @@ module _ (p : List ℕ) (w : filled p ≡ true) where
     nodes-none h =
         let a : byteAt p 2 ≡ 1 → ⊥ = λ q. omega arith in
         let b : byteAt p 2 ≡ 2 → ⊥ = λ q. omega arith in
-        by-cases (ℕ-discrete (byteAt p 2) 3) (λ q. simp q) (λ c. rw (ne-eqb (byteAt p 2) 1 a, ne-eqb (byteAt p 2) 2 b, ne-eqb (byteAt p 2) 3 c))
+        by-cases (ℕ-discrete (byteAt p 2) 3) (λ q. simp q) λ c.
+        by-cases (ℕ-discrete (byteAt p 2) 4) (λ q. simp q) λ d.
+        rw (ne-eqb (byteAt p 2) 1 a, ne-eqb (byteAt p 2) 2 b, ne-eqb (byteAt p 2) 3 c, ne-eqb (byteAt p 2) 4 d)
+
+  -- a constraint of two VMs ends with them
+  module _ (k : kindOf (constraintOf p) ≡ Before) where
+    fifth : kindAt p ≡ 5
+    fifth =
+        let l = kind-least in
+        let m = kind-most in
+        by-cases (ℕ-discrete (kindAt p) 1) (λ q. other Ban (is-ban (kindAt p) refl q) (λ z. let y : _≡_ {A = ℕ} 0 1 = cc in omega arith)) λ a.
+        by-cases (ℕ-discrete (kindAt p) 2) (λ q. other Fence (is-fence (kindAt p) refl q) (λ z. let y : _≡_ {A = ℕ} 0 1 = cc in omega arith)) λ b.
+        by-cases (ℕ-discrete (kindAt p) 3) (λ q. other Spread (is-spread (kindAt p) refl q) (λ z. let y : _≡_ {A = ℕ} 0 1 = cc in omega arith)) λ c.
+        by-cases (ℕ-discrete (kindAt p) 4) (λ q. other Latency (is-latency (kindAt p) refl q) (λ z. let y : _≡_ {A = ℕ} 0 1 = cc in omega arith)) λ d.
+        omega arith
+      where
+        other : (x : Kind) → x ≡ kindOf (constraintOf p) → (x ≡ Before → ⊥) → kindAt p ≡ 5
+        other x e n = absurd (n (e ∙ k))
+
+    pub first-read : (r : ℕ) → r ≡ byteAt p 3 → r ≡ firstOf (constraintOf p)
+    unfolding constraintOf firstOf
+    first-read r e = let q = fifth in simp q e
+
+    pub second-read : (r : ℕ) → r ≡ byteAt p 4 → r ≡ secondOf (constraintOf p)
+    unfolding constraintOf secondOf
+    second-read r e = let q = fifth in simp q e
 
   -- a latency constraint ends with its groups
   module _ (k : kindOf (constraintOf p) ≡ Latency) where
@@ -297,10 +384,14 @@ module _ (p : List ℕ) (w : filled p ≡ true) where
         by-cases (ℕ-discrete (kindAt p) 1) (λ q. other Ban (is-ban (kindAt p) refl q) (λ z. let y : _≡_ {A = ℕ} 0 1 = cc in omega arith)) λ a.
         by-cases (ℕ-discrete (kindAt p) 2) (λ q. other Fence (is-fence (kindAt p) refl q) (λ z. let y : _≡_ {A = ℕ} 0 1 = cc in omega arith)) λ b.
         by-cases (ℕ-discrete (kindAt p) 3) (λ q. other Spread (is-spread (kindAt p) refl q) (λ z. let y : _≡_ {A = ℕ} 0 1 = cc in omega arith)) λ c.
-        omega arith
+        by-cases (ℕ-discrete (kindAt p) 4) (λ q. q) λ d.
+        other Before (is-before (kindAt p) refl a b c d) (λ z. let y : _≡_ {A = ℕ} 0 1 = cc in omega arith)
       where
         other : (x : Kind) → x ≡ kindOf (constraintOf p) → (x ≡ Latency → ⊥) → kindAt p ≡ 4
         other x e n = absurd (n (e ∙ k))
+
+    pub groups-listed : kindAt p < 5
+    groups-listed = let q = fourth in omega arith
 
     pub groups-last : groupsEnd p (othersAt p + 1) (byteAt p (othersAt p)) ≡ length p
     unfolding listsEnd

@@ -1,15 +1,16 @@
 -- A walk over the constraints of an undamaged record, for the crates above: where it stands, and what its constraints are.
 use Prim.Native.Nat.{ℕ, zero, suc, _+_, _-_, _≤_, _<_}
-use mathlib.Core.Bool.{Bool, true, false, _&&_}
+use mathlib.Core.Bool.{Bool, true, false, not, _&&_}
 use mathlib.Core.List.{List, [], _∷_, map}
 use mathlib.Core.Path.{_≡_, refl, sym, ap, _∙_}
 use native.Mathlib.Omega.{arith}
 use lib.ListN.{length, getD}
-use lib.Dec.{ltb, leb}
-use borrow.Author.Tests.{ltb-true}
+use lib.Dec.{ltb, leb, eqb}
+use borrow.Author.Tests.{eq-eqb, ltb-true}
 use Rattle.records.specs.Base.{all}
-use Rattle.records.specs.Room.{Constraint, ban, fence, spread, latency, vmsOf, nodesOf, groupsOf, nodeCount, vmCount, constraintCount, constraintsStart, partEnd, partAt, partsFrom, partsEnd, partsOf, roomOf, constraintOf, above, rises, listOk, apart, constraintOk, filled, wellFormed, clusterCheck}
+use Rattle.records.specs.Room.{Constraint, ban, fence, spread, latency, before, kindOf, vmsOf, nodesOf, groupsOf, firstOf, secondOf, nodeCount, vmCount, constraintCount, constraintsStart, partEnd, partAt, partsFrom, partsEnd, partsOf, roomOf, constraintOf, above, rises, listOk, apart, constraintOk, filled, wellFormed, clusterCheck}
 use Rattle.records.specs.Inner.{Parts}
+use Rattle.records.specs.declared.constraints.Kind.the-variants.{Before}
 use Rattle.records.specs.declared.faults.ClusterCheck.the-variants.{Whole}
 use Rattle.records.proofs.Laws.Bools.{and-left, and-right, all-head, all-tail}
 use Rattle.records.proofs.Laws.Parts.{parts-fit, parts-step, parts-shorter}
@@ -61,11 +62,12 @@ module _ (s : List ℕ) (at left : ℕ) (w : Parts s at left) (z : 0 < left) whe
 
 module _ (v n : ℕ) where
   pub vms-sound : (c : Constraint) → constraintOk v n c ≡ true → listOk v (vmsOf c) ≡ true
-  unfolding constraintOk vmsOf
+  unfolding constraintOk vmsOf listOk rises all
   vms-sound (ban vms nodes) e = and-left (listOk v vms) _ e
   vms-sound (fence vms nodes) e = and-left (listOk v vms) _ e
   vms-sound (spread vms) e = e
   vms-sound (latency vms groups) e = and-left (listOk v vms) _ e
+  vms-sound (before first second) e = refl
 
   pub nodes-sound : (c : Constraint) → constraintOk v n c ≡ true → listOk n (nodesOf c) ≡ true
   unfolding constraintOk nodesOf listOk rises all
@@ -73,6 +75,7 @@ module _ (v n : ℕ) where
   nodes-sound (fence vms nodes) e = and-right (listOk v vms) _ e
   nodes-sound (spread vms) e = refl
   nodes-sound (latency vms groups) e = refl
+  nodes-sound (before first second) e = refl
 
   pub groups-sound : (c : Constraint) → constraintOk v n c ≡ true → all (listOk n) (groupsOf c) ≡ true
   unfolding constraintOk groupsOf all
@@ -80,6 +83,7 @@ module _ (v n : ℕ) where
   groups-sound (fence vms nodes) e = refl
   groups-sound (spread vms) e = refl
   groups-sound (latency vms groups) e = and-left (all (listOk n) groups) _ (and-right (leb (length groups) 64) _ (and-right (listOk v vms) _ e))
+  groups-sound (before first second) e = refl
 
   pub groups-apart : (c : Constraint) → constraintOk v n c ≡ true → apart (groupsOf c) ≡ true
   unfolding constraintOk groupsOf apart
@@ -87,6 +91,26 @@ module _ (v n : ℕ) where
   groups-apart (fence vms nodes) e = refl
   groups-apart (spread vms) e = refl
   groups-apart (latency vms groups) e = and-right (all (listOk n) groups) _ (and-right (leb (length groups) 64) _ (and-right (listOk v vms) _ e))
+  groups-apart (before first second) e = refl
+
+-- ---- the two VMs of a sound constraint
+
+-- both are there and they differ; in a constraint of lists both read 0
+module _ (v n : ℕ) where
+  pub pair-sound : (c : Constraint) → constraintOk v n c ≡ true → kindOf c ≡ Before → (firstOf c < v) × (secondOf c < v) × (firstOf c ≡ secondOf c → ⊥)
+  unfolding constraintOk kindOf firstOf secondOf
+  pair-sound (ban vms nodes) e k = let z : _≡_ {A = ℕ} 0 1 = cc in absurd (omega arith)
+  pair-sound (fence vms nodes) e k = let z : _≡_ {A = ℕ} 0 1 = cc in absurd (omega arith)
+  pair-sound (spread vms) e k = let z : _≡_ {A = ℕ} 0 1 = cc in absurd (omega arith)
+  pair-sound (latency vms groups) e k = let z : _≡_ {A = ℕ} 0 1 = cc in absurd (omega arith)
+  pair-sound (before first second) e k =
+      let r = and-right (ltb first v) _ e in (
+        ltb-true first v (and-left (ltb first v) _ e),
+        ltb-true second v (and-left (ltb second v) _ r),
+        λ q. let d = and-right (ltb second v) _ r in
+            let s : _≡_ {A = Bool} false true = simp (eq-eqb first second q) at d in
+            let z : _≡_ {A = ℕ} 0 1 = cc in omega arith,
+      )
 
 -- a list that rises strictly does so between any two places
 above-at : (low : ℕ) (l : List ℕ) (j : ℕ) → above low l ≡ true → j < length l → low < getD l j 0

@@ -9,17 +9,18 @@ use lib.ListN.{length, getD}
 use lib.Dec.{ltb, eqb}
 use borrow.Author.Tests.{ltb-true, eqb-true, eqb-false, not-true, lt-ltb, eq-eqb, ne-eqb}
 use Rattle.records.specs.Base.{pick, all}
-use Rattle.records.specs.Room.{Constraint, ban, fence, spread, latency, has, Room, nodeOf, vmOf, onNode}
+use Rattle.records.specs.Room.{Constraint, ban, fence, spread, latency, before, has, Room, nodeOf, vmOf, onNode}
 use Rattle.records.specs.Plan.{Move, Step, noMove, moveOf}
 use Rattle.records.specs.declared.plan.Source.the-variants.{Unnamed}
-use Rattle.records.proofs.Laws.Bools.{and-left, and-right, and-both, pick-same, bool-iff, all-head, all-tail, all-at, all-append}
+use Rattle.records.proofs.Laws.Bools.{and-left, and-right, and-both, pick-same, bool-iff, all-head, all-tail, all-at, all-append, all-more}
 use Rattle.rules.specs.Moments.{Placement, placeOf, withinMemory, within, bears, bearsAt, withVm, Phase, staying, waiting, Cell, cell, Moment, numberOf, countsOn, tallyAt, phaseOf, cellsFrom, firstMoment, begun, allRunning}
 use Rattle.rules.specs.Orders.{spreads, some, mates, meetsMate}
-use Rattle.rules.specs.Rules.{allowed, aims, named, permitted, fitting, unmet, soundStep}
+use Rattle.rules.specs.Rules.{allowed, aims, named, permitted, fitting, unmet, soundStep, inTurn}
 use Rattle.rules.specs.declared.tally.Tally.{Tally}
 use Rattle.rules.proofs.Laws.Bears.{at-node, bears-idle, bears-active, bears-beside}
 use Rattle.rules.proofs.Laws.Orders.{named-least, named-vm, named-sends, named-off, named-rest, named-cons, load, memoryIn, cpuIn, memory-load, cpu-load, not-own-mate, phase-at}
-use Rattle.rules.proofs.Laws.Sound.{sound-named, sound-permitted, sound-fitting, sound-unmet, sound-tests, all-more}
+use Rattle.rules.proofs.Laws.Turn.{turn-none}
+use Rattle.rules.proofs.Laws.Sound.{sound-named, sound-permitted, sound-fitting, sound-unmet, sound-turn, sound-tests}
 use Rattle.rules.proofs.Laws.Meet.{all-intro}
 
 -- a step with one move more, which names no source
@@ -38,6 +39,7 @@ spreads-sym v w (ban vms nodes ∷ ks) = spreads-sym v w ks
 spreads-sym v w (fence vms nodes ∷ ks) = spreads-sym v w ks
 spreads-sym v w (spread vms ∷ ks) = ap₂ (λ (a b : Bool). a || b) (and-comm (has vms v) (has vms w)) (spreads-sym v w ks)
 spreads-sym v w (latency vms groups ∷ ks) = spreads-sym v w ks
+spreads-sym v w (before first second ∷ ks) = spreads-sym v w ks
 
 pub mates-sym : (room : Room) (v w : ℕ) → mates room v w ≡ mates room w v
 unfolding mates
@@ -253,7 +255,7 @@ named-longer room places least (move ∷ moves) v d n a l t b o =
 abbrev pub joinsIf : Bool → Room → Placement → Step → ℕ → ℕ → Bool
 joinsIf fit room places step v d =
     (ltb v (length (room .vms)) && (aims room v d && not (eqb d (placeOf places v)))) &&
-    (allowed room v d && (fit && not (meetsMate room (allRunning (firstMoment room places step)) v d)))
+    (allowed room v d && (fit && (not (meetsMate room (allRunning (firstMoment room places step)) v d) && inTurn room places (longer step v d))))
 
 -- what its destination holds with it
 abbrev pub joinedTally : Room → Placement → Step → ℕ → ℕ → Tally
@@ -270,6 +272,7 @@ pub record Joins (room : Room) (places : Placement) (step : Step) (v d : ℕ) : 
   pub allows : allowed room v d ≡ true
   pub fit : bearsAt room d (withVm (tallyAt room d (allRunning (firstMoment room places step))) (vmOf room v)) (vmOf room v) ≡ true
   pub apart : meetsMate room (allRunning (firstMoment room places step)) v d ≡ false
+  pub turn : inTurn room places (longer step v d) ≡ true
 
 pub joins-tests : (room : Room) (places : Placement) (step : Step) (v d : ℕ) → joins room places step v d ≡ true → Joins room places step v d
 unfolding joins
@@ -278,17 +281,20 @@ joins-tests room places step v d e =
     let to : Bool = aims room v d && not (eqb d (placeOf places v)) in
     let f : Bool = bearsAt room d (withVm (tallyAt room d (allRunning (firstMoment room places step))) (vmOf room v)) (vmOf room v) in
     let m : Bool = meetsMate room (allRunning (firstMoment room places step)) v d in
-    let x : (there && to) ≡ true = and-left (there && to) (allowed room v d && (f && not m)) e in
-    let y : (allowed room v d && (f && not m)) ≡ true = and-right (there && to) (allowed room v d && (f && not m)) e in
+    let t : Bool = inTurn room places (longer step v d) in
+    let x : (there && to) ≡ true = and-left (there && to) (allowed room v d && (f && (not m && t))) e in
+    let y : (allowed room v d && (f && (not m && t))) ≡ true = and-right (there && to) (allowed room v d && (f && (not m && t))) e in
     let w : to ≡ true = and-right there to x in
-    let z : (f && not m) ≡ true = and-right (allowed room v d) (f && not m) y in
+    let z : (f && (not m && t)) ≡ true = and-right (allowed room v d) (f && (not m && t)) y in
+    let u : (not m && t) ≡ true = and-right f (not m && t) z in
     record {
       vm-there = ltb-true v (length (room .vms)) (and-left there to x);
       aimed = and-left (aims room v d) (not (eqb d (placeOf places v))) w;
       off = and-right (aims room v d) (not (eqb d (placeOf places v))) w;
-      allows = and-left (allowed room v d) (f && not m) y;
-      fit = and-left f (not m) z;
-      apart = not-true m (and-right f (not m) z);
+      allows = and-left (allowed room v d) (f && (not m && t)) y;
+      fit = and-left f (not m && t) z;
+      apart = not-true m (and-left (not m) t u);
+      turn = and-right (not m) t u;
     }
 
 -- ---- a sound step with one move more is sound exactly if the move joins
@@ -310,7 +316,7 @@ module _ (room : Room) (places : Placement) (step : Step) (v d : ℕ) (a : all (
   -- the last move of a sound step joins the others
   pub sound-joins : soundStep room places (step ++ (record { vm = v; source = Unnamed; to = d } ∷ [])) ≡ true → joins room places step v d ≡ true
   unfolding joins permitted fitting unmet
-  sound-joins s = and-both n (and-both p (and-both f u))
+  sound-joins s = and-both n (and-both p (and-both f (and-both u (sound-turn room places (longer step v d) s))))
     where
       last : (q : Move → Bool) → all q (longer step v d) ≡ true → q (record { vm = v; source = Unnamed; to = d }) ≡ true
       last q e = and-right (all q step) (q (record { vm = v; source = Unnamed; to = d })) (sym (all-snoc q step (record { vm = v; source = Unnamed; to = d })) ∙ e)
@@ -340,7 +346,7 @@ module _ (room : Room) (places : Placement) (step : Step) (v d : ℕ) (a : all (
   -- a move that joins leaves the step sound
   pub joins-sound : soundStep room places step ≡ true → joins room places step v d ≡ true → soundStep room places (step ++ (record { vm = v; source = Unnamed; to = d } ∷ [])) ≡ true
   unfolding permitted fitting unmet moveOf
-  joins-sound s e = sound-tests room places (longer step v d) n p f u
+  joins-sound s e = sound-tests room places (longer step v d) n p f u (j .turn)
     where
       j : Joins room places step v d
       j = joins-tests room places step v d e
@@ -390,11 +396,11 @@ module _ (room : Room) (places : Placement) (step : Step) (v d : ℕ) (a : all (
           not (meetsMate room (allRunning (firstMoment room places (longer step v d))) (getD step i noMove .vm) (getD step i noMove .to)) ≡ true
       older i h =
           let w = phase-at room places 0 step i (sound-named room places step s) h in
-          let before : meetsMate room (allRunning (firstMoment room places step)) (moveOf step i .vm) (moveOf step i .to) ≡ false =
+          let earlier : meetsMate room (allRunning (firstMoment room places step)) (moveOf step i .vm) (moveOf step i .to) ≡ false =
           not-true (meetsMate room (allRunning (firstMoment room places step)) (moveOf step i .vm) (moveOf step i .to))
           (all-at (λ move. not (meetsMate room (allRunning (firstMoment room places step)) (move .vm) (move .to))) step i noMove (sound-unmet room places step s) h) in
           ap not (meets-added room places step v d a (j .vm-there) (moveOf step i .vm) (moveOf step i .to) ∙
-          ap₂ (λ (x y : Bool). x || y) before
+          ap₂ (λ (x y : Bool). x || y) earlier
           (clear (onNode (moveOf step i .to)) (mates room (moveOf step i .vm) v) (eqb d (moveOf step i .to)) (moveOf step i .vm) (moveOf step i .to) refl (w .0) (w .2) refl refl))
 
       u : all (λ move. not (meetsMate room (allRunning (firstMoment room places (longer step v d))) (move .vm) (move .to))) (longer step v d) ≡ true
@@ -429,7 +435,7 @@ module _ (room : Room) (places : Placement) (step : Step) (v d : ℕ) (s : sound
 
 pub empty-sound : (room : Room) (places : Placement) → soundStep room places [] ≡ true
 unfolding soundStep named permitted fitting unmet all
-empty-sound room places = refl
+empty-sound room places = turn-none room places
 
 pub alone : (room : Room) (places : Placement) (v d : ℕ) → soundStep room places (record { vm = v; source = Unnamed; to = d } ∷ []) ≡ joins room places [] v d
 unfolding all

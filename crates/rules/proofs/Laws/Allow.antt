@@ -13,18 +13,17 @@ use lib.Seq.{drop-cons, getD-set-same, getD-set-other, ext-getD}
 use lib.Dec.{ltb, eqb}
 use borrow.Author.Tests.{lt-ltb, le-ltb, eq-eqb, ne-eqb, ltb-true}
 use Rattle.records.specs.Base.{pick, all}
-use Rattle.records.specs.Room.{Constraint, ban, fence, spread, latency, kindOf, vmsOf, nodesOf, has, roomOf, vmCount, nodeCount, constraintsStart, constraintCount, partEnd, partAt, partsFrom, constraintOf, rises, listOk, constraintOk, filled, wellFormed, clusterCheck}
+use Rattle.records.specs.Room.{Constraint, ban, fence, spread, latency, before, kindOf, vmsOf, nodesOf, has, roomOf, vmCount, nodeCount, constraintsStart, constraintCount, partEnd, partAt, partsFrom, constraintOf, rises, listOk, constraintOk, filled, wellFormed, clusterCheck}
 use Rattle.records.specs.Inner.{Below, Parts}
 use Rattle.records.specs.declared.constraints.Kind.{Kind}
-use Rattle.records.specs.declared.constraints.Kind.the-variants.{Ban, Fence, Spread, Latency}
+use Rattle.records.specs.declared.constraints.Kind.the-variants.{Ban, Fence, Spread, Latency, Before}
 use Rattle.records.specs.declared.faults.ClusterCheck.the-variants.{Whole}
-use Rattle.records.proofs.Laws.Bools.{and-left, and-right, and-both, pick-same}
+use Rattle.records.proofs.Laws.Bools.{and-left, and-right, and-both, pick-same, all-more}
 use Rattle.records.proofs.Laws.Lists.{list-below}
 use Rattle.records.proofs.Laws.Cluster.{nodes-most, vms-most}
 use Rattle.records.proofs.Laws.Walk.{constraints-are, walk-start, walk-cons, walk-ok, vms-sound, nodes-sound}
 use Rattle.records.proofs.Laws.Parts.{parts-step}
 use Rattle.records.proofs.Laws.Rows.{node-on}
-use Rattle.rules.proofs.Laws.Sound.{all-more}
 use Rattle.rules.proofs.Laws.Tables.{table-length, table-at}
 use Rattle.rules.specs.Rules.{from, keepsFrom, allowed}
 use Rattle.rules.specs.Inner.{keptMark, rowKept, listKept, stopped, applied, appliedAll, allowTable, Allows}
@@ -37,13 +36,13 @@ kept-old stop old e = simp (eq-eqb stop 0 e)
 pub kept-none : (stop old : ℕ) → (stop ≡ 0 → ⊥) → 0 ≡ keptMark stop old
 kept-none stop old n = simp (ne-eqb stop 0 n)
 
-pub row-more : (before table stop : List ℕ) (v d x : ℕ) → x ≡ keptMark (getD stop d 0) (getD table (v * 64 + d) 0) → table ≡ rowKept before stop v d →
-    set table (v * 64 + d) x ≡ rowKept before stop v (d + 1)
+pub row-more : (start table stop : List ℕ) (v d x : ℕ) → x ≡ keptMark (getD stop d 0) (getD table (v * 64 + d) 0) → table ≡ rowKept start stop v d →
+    set table (v * 64 + d) x ≡ rowKept start stop v (d + 1)
 unfolding rowKept
-row-more before table stop v d x e inv = rw (add-one d, e, inv)
+row-more start table stop v d x e inv = rw (add-one d, e, inv)
 
-pub row-end : (before table stop : List ℕ) (v d : ℕ) → table ≡ rowKept before stop v d → d ≤ 64 → 64 ≤ d → table ≡ rowKept before stop v 64
-row-end before table stop v d inv h k = let z : d ≡ 64 = omega arith in rw z at inv
+pub row-end : (start table stop : List ℕ) (v d : ℕ) → table ≡ rowKept start stop v d → d ≤ 64 → 64 ≤ d → table ≡ rowKept start stop v 64
+row-end start table stop v d inv h k = let z : d ≡ 64 = omega arith in rw z at inv
 
 pub rows-more : (table after stop vms result : List ℕ) (i v : ℕ) → v ≡ getD vms i 0 → after ≡ rowKept table stop v 64 → listKept table stop (drop i vms) ≡ result → i < length vms →
     listKept after stop (drop (i + 1) vms) ≡ result
@@ -71,6 +70,7 @@ module _ (table : List ℕ) where
   ban-applied (fence vms nodes) e = let z : _≡_ {A = ℕ} 0 1 = cc in absurd (omega arith)
   ban-applied (spread vms) e = let z : _≡_ {A = ℕ} 0 1 = cc in absurd (omega arith)
   ban-applied (latency vms groups) e = let z : _≡_ {A = ℕ} 0 1 = cc in absurd (omega arith)
+  ban-applied (before first second) e = let z : _≡_ {A = ℕ} 0 1 = cc in absurd (omega arith)
 
   fence-applied : (k : Constraint) → kindOf k ≡ Fence → applied table k ≡ listKept table (stopped (replicate 64 1) 0 (nodesOf k)) (vmsOf k)
   unfolding applied kindOf nodesOf vmsOf
@@ -78,6 +78,7 @@ module _ (table : List ℕ) where
   fence-applied (fence vms nodes) e = refl
   fence-applied (spread vms) e = let z : _≡_ {A = ℕ} 0 1 = cc in absurd (omega arith)
   fence-applied (latency vms groups) e = let z : _≡_ {A = ℕ} 0 1 = cc in absurd (omega arith)
+  fence-applied (before first second) e = let z : _≡_ {A = ℕ} 0 1 = cc in absurd (omega arith)
 
   pub apply-spread : (k : Constraint) (kind : Kind) → kind ≡ kindOf k → kind ≡ Spread → table ≡ applied table k
   unfolding applied kindOf
@@ -85,6 +86,7 @@ module _ (table : List ℕ) where
   apply-spread (fence vms nodes) kind a e = let z : _≡_ {A = ℕ} 0 1 = cc in absurd (omega arith)
   apply-spread (spread vms) kind a e = refl
   apply-spread (latency vms groups) kind a e = refl
+  apply-spread (before first second) kind a e = refl
 
   pub apply-latency : (k : Constraint) (kind : Kind) → kind ≡ kindOf k → kind ≡ Latency → table ≡ applied table k
   unfolding applied kindOf
@@ -92,6 +94,15 @@ module _ (table : List ℕ) where
   apply-latency (fence vms nodes) kind a e = let z : _≡_ {A = ℕ} 0 1 = cc in absurd (omega arith)
   apply-latency (spread vms) kind a e = refl
   apply-latency (latency vms groups) kind a e = refl
+  apply-latency (before first second) kind a e = refl
+
+  pub apply-before : (k : Constraint) (kind : Kind) → kind ≡ kindOf k → kind ≡ Before → table ≡ applied table k
+  unfolding applied kindOf
+  apply-before (ban vms nodes) kind a e = let z : _≡_ {A = ℕ} 0 1 = cc in absurd (omega arith)
+  apply-before (fence vms nodes) kind a e = let z : _≡_ {A = ℕ} 0 1 = cc in absurd (omega arith)
+  apply-before (spread vms) kind a e = refl
+  apply-before (latency vms groups) kind a e = refl
+  apply-before (before first second) kind a e = refl
 
   module _ (after nodes vms stop : List ℕ) (k : Constraint) (kind : Kind) (a : kind ≡ kindOf k) (n : nodes ≡ nodesOf k) (v : vms ≡ vmsOf k)
       (t : after ≡ listKept table stop vms) where
@@ -207,6 +218,7 @@ module _ (table : List ℕ) (u e : ℕ) (z : length table ≡ 16384) (k : e < 64
       rw (stopped-at (replicate 64 1) nodes 0 e (simp length-replicate) k, getD-replicate {A = ℕ} 64 e 1 0 k, flag-zero (has nodes e))
   applied-at (spread vms) b = simp and-false
   applied-at (latency vms groups) b = simp and-false
+  applied-at (before first second) b = simp and-false
 
 applied-length : (table : List ℕ) (c : Constraint) → length table ≡ 16384 → all (λ v. ltb v 256) (vmsOf c) ≡ true → length (applied table c) ≡ 16384
 unfolding applied vmsOf
@@ -214,6 +226,7 @@ applied-length table (ban vms nodes) z b = list-length table (stopped (replicate
 applied-length table (fence vms nodes) z b = list-length table (stopped (replicate 64 1) 0 nodes) vms z b
 applied-length table (spread vms) z b = z
 applied-length table (latency vms groups) z b = z
+applied-length table (before first second) z b = z
 
 pick-after : (a c : Bool) (x : ℕ) → pick a (pick c 0 x) 0 ≡ pick (not c && a) x 0
 pick-after true true x = refl

@@ -1,4 +1,4 @@
--- Laws on the check of a step: each refusal, 15, 27, 16, 17 and 18, in its turn.
+-- Laws on the check of a step: each refusal, 15, 27, 16, 17, 18 and 33, in its turn.
 use Prim.Native.Nat.{ℕ, zero, suc, _+_, _-_, _*_, _≤_, _<_, _^_}
 use mathlib.Core.Bool.{Bool, true, false, not, _&&_}
 use mathlib.Core.List.{List, [], _∷_}
@@ -17,16 +17,17 @@ use Rattle.records.proofs.Laws.Cluster.{nodes-most, vms-most}
 use Rattle.records.proofs.Laws.Rows.{far-off}
 use Rattle.records.proofs.Laws.Steps.{step-length}
 use Rattle.rules.specs.Moments.{Placement, placeOf}
-use Rattle.rules.specs.Rules.{allowed, named, sourced, permitted, fitting, unmet, stepCheck}
-use Rattle.rules.specs.Inner.{held, Placed, Held, destsFrom, Ready, Loads, Aimed, Allows, fitsIn, spreadOk, runningCheck}
-use Rattle.rules.specs.declared.faults.StepFault.the-variants.{Misnamed, Elsewhere, Forbidden, Misfit, Mate}
+use Rattle.rules.specs.Rules.{allowed, named, sourced, permitted, fitting, unmet, inTurn, stepCheck}
+use Rattle.rules.specs.Inner.{held, Placed, Held, destsFrom, Ready, Loads, Aimed, Allows, fitsIn, spreadOk, turnOk, boundCheck, runningCheck}
+use Rattle.rules.specs.declared.faults.StepFault.the-variants.{Misnamed, Elsewhere, Forbidden, Misfit, Mate, Early}
 use Rattle.rules.specs.declared.faults.StepCheck.{StepCheck}
 use Rattle.rules.specs.declared.faults.StepCheck.the-variants.{Clear, Faulty}
 use Rattle.rules.specs.declared.tally.Tally.{Tally}
 use Rattle.rules.proofs.Laws.Places.{step-cons}
-use Rattle.rules.proofs.Laws.Reserve.{named-same, permitted-same, unmet-same}
+use Rattle.rules.proofs.Laws.Reserve.{named-same, permitted-same, unmet-same, turn-same}
 use Rattle.rules.proofs.Laws.Fit.{named-is-aimed, named-ready, fitting-is}
 use Rattle.rules.proofs.Laws.Meet.{unmet-is}
+use Rattle.rules.proofs.Laws.Bound.{in-turn-is}
 use Rattle.rules.proofs.Laws.Sources.{sourced-held}
 
 -- ---- 16: the pass over the moves
@@ -105,19 +106,17 @@ module _ (s plan places : List ℕ) (at : ℕ) (h : Held s plan at places) where
       unfolding runningCheck
       running-misfit o = simp (sym fits-is ∙ o)
 
-      module _ (apart : Bool) (g : apart ≡ all (spreadOk places dests) (roomOf s .constraints)) (o : fits ≡ true) where
-        apart-is : apart ≡ unmet (roomAt reserve s) (held s places) (stepAt plan at)
-        apart-is =
-            unmet-is s places (stepAt plan at) (h .whole) (h .well-named) (rw e at held-ready) apart (rw e at g) ∙
-            sym (unmet-same reserve (roomOf s) (held s places) (stepAt plan at))
+      apart-is : all (spreadOk places dests) (roomOf s .constraints) ≡ unmet (roomAt reserve s) (held s places) (stepAt plan at)
+      apart-is =
+          rw e (unmet-is s places (stepAt plan at) (h .whole) (h .well-named) (rw e at held-ready) _ refl) ∙
+          sym (unmet-same reserve (roomOf s) (held s places) (stepAt plan at))
 
-        pub running-mate : apart ≡ false → Faulty Mate ≡ runningCheck (roomAt reserve s) (held s places) (stepAt plan at)
-        unfolding runningCheck
-        running-mate p = simp (sym fits-is ∙ o, sym apart-is ∙ p)
+      turn-is : all (turnOk (roomOf s) places dests) (roomOf s .constraints) ≡ inTurn (roomAt reserve s) (held s places) (stepAt plan at)
+      turn-is = rw e (in-turn-is s places (stepAt plan at) (h .whole) (h .well-named)) ∙ sym (turn-same reserve (roomOf s) (held s places) (stepAt plan at))
 
-        pub running-sound : apart ≡ true → Clear ≡ runningCheck (roomAt reserve s) (held s places) (stepAt plan at)
-        unfolding runningCheck
-        running-sound p = simp (sym fits-is ∙ o, sym apart-is ∙ p)
+      pub running-bound : (r : StepCheck) → r ≡ boundCheck (roomOf s) places dests → fits ≡ true → r ≡ runningCheck (roomAt reserve s) (held s places) (stepAt plan at)
+      unfolding runningCheck boundCheck
+      running-bound r g o = simp (sym fits-is ∙ o, ← apart-is, ← turn-is) g
 
 -- ---- the first fault
 

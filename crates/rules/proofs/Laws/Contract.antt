@@ -17,7 +17,7 @@ use Rattle.rules.specs.Rules.{stepCheck}
 use Rattle.rules.specs.Cost.{costOf}
 use Rattle.rules.specs.Verdict.{verdictOf, faultNumber, faultStep, packed}
 use Rattle.rules.specs.Returned.{toldCost, SaysGood, SaysRefused}
-use Rattle.rules.specs.Promises.{Shaped, FaultNames, FaultSource, FaultDestination, FaultFit, FaultMate, FirstAtFault, TellsVerdict, Checked}
+use Rattle.rules.specs.Promises.{Shaped, FaultNames, FaultSource, FaultDestination, FaultFit, FaultMate, FaultTurn, FirstAtFault, TellsVerdict, Checked}
 use Rattle.rules.specs.declared.faults.StepFault.{StepFault}
 use Rattle.rules.specs.declared.faults.StepCheck.{StepCheck}
 use Rattle.rules.specs.declared.faults.Fault.{Fault}
@@ -27,9 +27,11 @@ use Rattle.rules.proofs.Laws.Returned.{tells-accepted, tells-refused, s
 use Rattle.rules.proofs.Laws.Runs.{sound-orders, stays-within}
 use Rattle.rules.proofs.Laws.Spreads.{stays-apart}
 use Rattle.rules.proofs.Laws.Running.{keeps-running, nothing-down}
+use Rattle.rules.proofs.Laws.Waiting.{waits-its-turn}
+use Rattle.rules.proofs.Laws.Bound.{first-there}
 use Rattle.rules.proofs.Laws.Sources.{names-places, unnamed-sourced, sources-unread}
 use Rattle.rules.proofs.Laws.Costs.{cost-low}
-use Rattle.rules.proofs.Laws.Verdicts.{names-fault, source-fault, destination-fault, fit-fault, mate-fault, first-fault, ends-away, current-length, accepted-steps, only-holds, exact-holds, step-refusal, none-elsewhere, reserve-refusal, end-refusal, step-most, empty-as-header}
+use Rattle.rules.proofs.Laws.Verdicts.{names-fault, source-fault, destination-fault, fit-fault, mate-fault, turn-fault, first-fault, ends-away, current-length, accepted-steps, only-holds, exact-holds, step-refusal, none-elsewhere, reserve-refusal, end-refusal, step-most, empty-as-header}
 
 beside : {A B C : Type 0} → A ↔ B → (C × A) ↔ (C × B)
 beside e = (λ x. (x .0, e .0 (x .1)), λ x. (x .0, e .1 (x .1)))
@@ -86,6 +88,7 @@ module _ (reserve : ℕ) (cluster plan : List ℕ) (b : AreBytes cluster) where
       forbidden = λ n. at-step StepFault.Forbidden n (FaultDestination (roomAt reserve cluster)) (destination-fault (roomAt reserve cluster));
       misfit = λ n. at-step StepFault.Misfit n (FaultFit (roomAt reserve cluster)) (fit-fault (roomAt reserve cluster));
       mate = λ n. at-step StepFault.Mate n (FaultMate (roomAt reserve cluster)) (mate-fault (roomAt reserve cluster));
+      early = λ n. at-step StepFault.Early n (FaultTurn (roomAt reserve cluster)) (turn-fault (roomAt reserve cluster));
       off-target =
           Iff·trans (says Fault.OffTarget)
           (Iff·trans (end-refusal reserve cluster plan) (beside (ends-away (roomAt reserve cluster) (currentOf (roomAt reserve cluster)) (stepsOf plan) (current-length (roomAt reserve cluster)))));
@@ -100,6 +103,10 @@ module _ (reserve : ℕ) (cluster plan : List ℕ) (b : AreBytes cluster) where
           let o = only-holds reserve cluster plan (toldCost r) (accepted g) in
           keeps-running (roomAt reserve cluster) (currentOf (roomAt reserve cluster)) (stepsOf plan) (few (o .0 .cluster-whole)) (o .1) (current-length (roomAt reserve cluster));
       version-1 = nothing-down reserve cluster;
+      waits = λ g.
+          let o = only-holds reserve cluster plan (toldCost r) (accepted g) in
+          waits-its-turn (roomAt reserve cluster) (currentOf (roomAt reserve cluster)) (stepsOf plan) (first-there reserve cluster (o .0 .cluster-whole))
+          (accepted-steps reserve cluster plan (toldCost r) (accepted g) .sound) (current-length (roomAt reserve cluster));
       sources = λ g v.
           let a = accepted-steps reserve cluster plan (toldCost r) (accepted g) in
           names-places (roomAt reserve cluster) (currentOf (roomAt reserve cluster)) (stepsOf plan) (current-length (roomAt reserve cluster)) (a .sound) (a .well-sourced) (all-tell plan v);

@@ -20,8 +20,9 @@ use Rattle.records.proofs.Laws.Cluster.{nodes-most, vms-most, vms-count, nodes-
 use Rattle.records.proofs.Laws.Rows.{near-node, near-on, far-off, not-between, place-more}
 use Rattle.records.proofs.Laws.Steps.{step-length}
 use Rattle.rules.specs.Moments.{Placement, placeOf, targetOf, waiting, emptyTally, withinMemory, withinCpu, within, isIdle, bears, bearsAt, tallyAt, phaseOf, cellsFrom, firstMoment, begun, allRunning}
-use Rattle.rules.specs.Rules.{aims, named, fitting}
-use Rattle.rules.specs.Inner.{held, destsFrom, goalIn, busyFrom, Ready, Loads, Aimed, borneIn, fitsIn}
+use Rattle.rules.specs.Rules.{aims, named, fitting, hasMove}
+use Rattle.rules.specs.Orders.{some}
+use Rattle.rules.specs.Inner.{held, destsFrom, noMove, goalIn, busyFrom, Ready, Loads, Aimed, borneIn, fitsIn}
 use Rattle.rules.specs.declared.tally.Tally.{Tally}
 use Rattle.rules.proofs.Laws.Reserve.{moment-same, tally-same, named-same}
 use Rattle.rules.proofs.Laws.Places.{step-cons}
@@ -121,6 +122,19 @@ goal-is (move ∷ moves) v h a =
     (λ e. simp (ne-eqb (move .vm) v e)
     (rw (getD-set-other (destsFrom moves) (move .vm) v (move .to) 0 (λ x. e (sym x)))
     (goal-is moves v h (and-right (placeOk true 64 (move .to)) (all (λ m. placeOk true 64 (m .to)) moves) a))))
+
+-- a VM has a destination exactly if the step moves it
+dest-moves : (step : Step) (v : ℕ) → v < 256 → far step ≡ true → eqb (getD (destsFrom step) v 0) noMove ≡ not (hasMove step v)
+unfolding destsFrom hasMove some far all
+dest-moves [] v h a = rw (getD-replicate {A = ℕ} 256 v 64 0 h)
+dest-moves (move ∷ moves) v h a =
+    by-cases (ℕ-discrete (move .vm) v)
+    (λ e. let l = not-between 64 (move .to) (omega arith) (and-left (placeOk true 64 (move .to)) (all (λ m. placeOk true 64 (m .to)) moves) a) in
+    let k : v < length (destsFrom moves) = rw (dests-length moves) h in
+    simp (eq-eqb (move .vm) v e) (rw (ap (λ (u : ℕ). getD (set (destsFrom moves) u (move .to)) v 0) e ∙ getD-set-same (destsFrom moves) v (move .to) 0 k, ne-eqb (move .to) 64 l)))
+    (λ e. simp (ne-eqb (move .vm) v e)
+    (rw (getD-set-other (destsFrom moves) (move .vm) v (move .to) 0 (λ x. e (sym x)))
+    (dest-moves moves v h (and-right (placeOk true 64 (move .to)) (all (λ m. placeOk true 64 (m .to)) moves) a))))
 
 dest-waits : (step : Step) (v : ℕ) → v < 256 → getD (destsFrom step) v 0 < 64 → phaseOf step v ≡ waiting (getD (destsFrom step) v 0)
 unfolding destsFrom phaseOf
@@ -263,6 +277,9 @@ module _ (s places : List ℕ) (step : Step) (w : clusterCheck s ≡ Whole) (n :
 
   far-step : far step ≡ true
   far-step = named-far s (held s places) 0 step (nodes-most s w) n
+
+  pub moves-at : (v : ℕ) → v < 256 → eqb (getD (destsFrom step) v 0) noMove ≡ not (hasMove step v)
+  moves-at v h = dest-moves step v h far-step
 
   -- the moment when every move runs, from the two arrays
   pub running-is : busyFrom places (destsFrom step) 0 (vmCount s) ≡ allRunning (firstMoment (roomOf s) (held s places) step)

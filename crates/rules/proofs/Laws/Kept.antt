@@ -8,10 +8,10 @@ use lib.ListN.{length, getD, replicate, length-replicate, getD-replicate}
 use lib.Dec.{ltb, eqb}
 use borrow.Author.Tests.{lt-ltb, eq-eqb, ne-eqb, eqb-true, ltb-true}
 use Rattle.records.specs.Base.{pick, all}
-use Rattle.records.specs.Room.{Constraint, ban, fence, spread, latency, groupsOf, onNode, has, rises, listOk, atReserve, roomOf, roomAt, nodeCount, vmCount, partAt, partsFrom, constraintsStart, constraintCount, constraintOf, constraintOk, clusterCheck}
+use Rattle.records.specs.Room.{Constraint, ban, fence, spread, latency, before, groupsOf, onNode, has, rises, listOk, atReserve, roomOf, roomAt, nodeCount, vmCount, partAt, partsFrom, constraintsStart, constraintCount, constraintOf, constraintOk, clusterCheck}
 use Rattle.records.specs.Inner.{Parts}
 use Rattle.records.specs.declared.faults.ClusterCheck.the-variants.{Whole}
-use Rattle.records.proofs.Laws.Bools.{and-left, and-right, and-both, all-same, all-and, all-true}
+use Rattle.records.proofs.Laws.Bools.{and-left, and-right, and-both, all-same, all-and, all-true, all-more}
 use Rattle.records.proofs.Laws.Cluster.{nodes-most}
 use Rattle.records.proofs.Laws.Rows.{near-is}
 use Rattle.records.proofs.Laws.Walk.{walk-filled, walk-ok, groups-sound}
@@ -26,7 +26,6 @@ use Rattle.rules.proofs.Laws.Allow.{walk-below, stopped-at}
 use Rattle.rules.proofs.Laws.Places.{target-holds, target-placed}
 use Rattle.rules.proofs.Laws.Fit.{held-at}
 use Rattle.rules.proofs.Laws.Meet.{arrives, go-arrives, marks-none, has-below, constraints-ok}
-use Rattle.rules.proofs.Laws.Sound.{all-more}
 use Rattle.rules.proofs.Laws.Walks.{walk-not, walk-more, walk-done, walk-all}
 
 -- ---- the walk
@@ -69,7 +68,7 @@ unfolding all has
 all-in p q [] e = refl
 all-in p q (x ∷ xs) e = rw (e x (simp (eq-eqb x x refl)), all-in p q xs (λ y h. e y (simp (h, or-true))))
 
-some-same : {A : Type 0} (p q : A → Bool) → ((x : A) → p x ≡ q x) → (xs : List A) → some p xs ≡ some q xs
+pub some-same : {A : Type 0} (p q : A → Bool) → ((x : A) → p x ≡ q x) → (xs : List A) → some p xs ≡ some q xs
 unfolding some
 some-same p q e [] = refl
 some-same p q e (x ∷ xs) = rw (e x, some-same p q e xs)
@@ -242,6 +241,7 @@ module _ (s places : List ℕ) (w : clusterCheck s ≡ Whole) (p : Placed s plac
       let o = and-left (listOk (vmCount s) vms) _ c in
       ap₂ (λ (a b : Bool). a || b) (clear-down s places w p vms o)
       (some-same (groupHolds places vms) (λ g. all (λ v. has g (placeOf (held s places) v)) (onNodes (held s places) vms)) (λ g. clear-fence s places w p vms o g) groups)
+  kept-is (before first second) c = refl
 
   all-kept-is : (ks : List Constraint) → all (constraintOk (vmCount s) (nodeCount s)) ks ≡ true → all (keepsIn places) ks ≡ all (keeps (held s places)) ks
   unfolding all

@@ -12,10 +12,10 @@ use lib.Seq.{drop-cons, getD-set-same, getD-set-other}
 use lib.Dec.{ltb, leb, eqb}
 use borrow.Author.Tests.{lt-ltb, le-ltb, eq-eqb, ne-eqb, eqb-true, eqb-false, ltb-true, not-true, not-false}
 use Rattle.records.specs.Base.{pick, all}
-use Rattle.records.specs.Room.{Constraint, ban, fence, spread, latency, kindOf, vmsOf, has, above, rises, listOk, Room, roomOf, vmCount, nodeCount, constraintsStart, constraintCount, partEnd, partAt, partsFrom, constraintOf, constraintOk, filled, wellFormed, clusterCheck}
+use Rattle.records.specs.Room.{Constraint, ban, fence, spread, latency, before, kindOf, vmsOf, has, above, rises, listOk, Room, roomOf, vmCount, nodeCount, constraintsStart, constraintCount, partEnd, partAt, partsFrom, constraintOf, constraintOk, filled, wellFormed, clusterCheck}
 use Rattle.records.specs.Inner.{Parts}
 use Rattle.records.specs.declared.constraints.Kind.{Kind}
-use Rattle.records.specs.declared.constraints.Kind.the-variants.{Ban, Fence, Spread, Latency}
+use Rattle.records.specs.declared.constraints.Kind.the-variants.{Ban, Fence, Spread, Latency, Before}
 use Rattle.records.specs.declared.faults.ClusterCheck.the-variants.{Whole}
 use Rattle.records.proofs.Laws.Bools.{and-left, and-right, and-both, bool-iff, all-head, all-tail}
 use Rattle.records.proofs.Laws.Parts.{parts-step}
@@ -79,6 +79,7 @@ part-spread places dests vms (ban xs nodes) kind r a b c e = let z : _≡_ {A = 
 part-spread places dests vms (fence xs nodes) kind r a b c e = let z : _≡_ {A = ℕ} 0 1 = cc in absurd (omega arith)
 part-spread places dests vms (spread xs) kind r a b c e = b ∙ ap (listUnmet places dests) c
 part-spread places dests vms (latency xs groups) kind r a b c e = let z : _≡_ {A = ℕ} 0 1 = cc in absurd (omega arith)
+part-spread places dests vms (before first second) kind r a b c e = let z : _≡_ {A = ℕ} 0 1 = cc in absurd (omega arith)
 
 pub part-other : (places dests : List ℕ) (k : Constraint) (kind : Kind) → kind ≡ kindOf k → (kind ≡ Spread → ⊥) → true ≡ spreadOk places dests k
 unfolding spreadOk kindOf
@@ -86,6 +87,7 @@ part-other places dests (ban xs nodes) kind a n = refl
 part-other places dests (fence xs nodes) kind a n = refl
 part-other places dests (spread xs) kind a n = absurd (n a)
 part-other places dests (latency xs groups) kind a n = refl
+part-other places dests (before first second) kind a n = refl
 
 not-spread : (kind other : Kind) → kind ≡ other → (other ≡ Spread → ⊥) → kind ≡ Spread → ⊥
 not-spread kind other e n q = n (sym e ∙ q)
@@ -100,18 +102,5 @@ module _ (places dests : List ℕ) (k : Constraint) (kind : Kind) (a : kind ≡ 
   pub part-latency : kind ≡ Latency → true ≡ spreadOk places dests k
   part-latency e = part-other places dests k kind a (not-spread kind Latency e (λ q. let z : _≡_ {A = ℕ} 0 1 = cc in omega arith))
 
--- the walk over the constraints
-module _ (s p places dests : List ℕ) (at left : ℕ) (ok result : Bool) (e : p ≡ partAt s at) (f : ok ≡ spreadOk places dests (constraintOf p)) (d : Parts s at left)
-    (inv : all (spreadOk places dests) (map constraintOf (partsFrom s at left)) ≡ result) (z : 0 < left) where
-  pub spreads-not : ok ≡ false → false ≡ result
-  spreads-not = walk-not s p at left (spreadOk places dests) ok result e f d inv z
-
-  pub spreads-more : ok ≡ true → all (spreadOk places dests) (map constraintOf (partsFrom s (at + length p) (left - 1))) ≡ result
-  spreads-more = walk-more s p at left (spreadOk places dests) ok result e f d inv z
-
-pub spreads-end : (s places dests : List ℕ) (at left : ℕ) (result : Bool) → all (spreadOk places dests) (map constraintOf (partsFrom s at left)) ≡ result → left ≤ 0 → true ≡ result
-spreads-end s places dests at left result = walk-done s at left (spreadOk places dests) result
-
-pub spreads-start : (s places dests : List ℕ) (at left : ℕ) → at ≡ constraintsStart s → left ≡ constraintCount s →
-    all (spreadOk places dests) (map constraintOf (partsFrom s at left)) ≡ all (spreadOk places dests) (roomOf s .constraints)
-spreads-start s places dests at left = walk-all s at left (spreadOk places dests)
+  pub part-before : kind ≡ Before → true ≡ spreadOk places dests k
+  part-before e = part-other places dests k kind a (not-spread kind Before e (λ q. let z : _≡_ {A = ℕ} 0 1 = cc in omega arith))

@@ -11,7 +11,7 @@ use lib.Seq.{getD-set-same, getD-set-other}
 use lib.Dec.{ltb, leb, eqb}
 use borrow.Author.Tests.{lt-ltb, le-ltb, eq-eqb, ne-eqb, eqb-true, eqb-false, ltb-true, not-true, not-false}
 use Rattle.records.specs.Base.{pick, all}
-use Rattle.records.specs.Room.{Constraint, ban, fence, spread, latency, vmsOf, has, above, rises, listOk, Room, roomOf, vmCount, nodeCount, partsOf, constraintOf, constraintOk, filled, wellFormed, clusterCheck}
+use Rattle.records.specs.Room.{Constraint, ban, fence, spread, latency, before, vmsOf, has, above, rises, listOk, Room, roomOf, vmCount, nodeCount, partsOf, constraintOf, constraintOk, filled, wellFormed, clusterCheck}
 use Rattle.records.specs.Plan.{Move, Step, moveOf, noMove}
 use Rattle.records.specs.declared.faults.ClusterCheck.the-variants.{Whole}
 use Rattle.records.proofs.Laws.Bools.{and-left, and-right, and-both, bool-iff, all-at, all-and}
@@ -308,6 +308,7 @@ module _ (s places : List ℕ) (step : Step) (w : clusterCheck s ≡ Whole) (n :
   spread-at (ban vs nodes) c o v u e m l = never (sym e)
   spread-at (fence vs nodes) c o v u e m l = never (sym e)
   spread-at (latency vs groups) c o v u e m l = never (sym e)
+  spread-at (before first second) c o v u e m l = never (sym e)
   spread-at (spread vs) c o v u e m l =
       let hv = and-left (has vs v) (has vs u) e in
       let hu = and-right (has vs v) (has vs u) e in
@@ -377,6 +378,7 @@ module _ (s places : List ℕ) (step : Step) (w : clusterCheck s ≡ Whole) (n :
     back-at i d (ban vs nodes) h e c = refl
     back-at i d (fence vs nodes) h e c = refl
     back-at i d (latency vs groups) h e c = refl
+    back-at i d (before first second) h e c = refl
     back-at i d (spread vs) h e c =
         let inside : (x : ℕ) → has vs x ≡ true → x < vmCount s = list-in vs c in
         list-all places (destsFrom step) vs (and-left (rises vs) _ c)

@@ -1,21 +1,21 @@
 -- Wrong readings of the rules, each written beside the right one, and a small case that tells the two apart.
 use Prim.Native.Nat.{ℕ, _+_, _-_, _*_, _/_}
 use mathlib.Core.Bool.{Bool, true, false, not, _&&_, _||_}
-use mathlib.Core.List.{[], _∷_, map}
+use mathlib.Core.List.{List, [], _∷_, map}
 use mathlib.Core.Path.{_≡_, refl}
 use lib.ListN.{length}
 use lib.Dec.{eqb}
 use Rattle.records.specs.Base.{pick, all, sumOf}
-use Rattle.records.specs.Room.{Room, Vm, Node, fence, spread, has, vmsOf, nodeOf, vmOf, usable, usableNode, atReserve, nowhere, onNode}
+use Rattle.records.specs.Room.{Constraint, Room, Vm, Node, fence, spread, before, has, vmsOf, nodeOf, vmOf, usable, usableNode, atReserve, nowhere, onNode}
 use Rattle.records.specs.Plan.{Step}
 use Rattle.records.specs.declared.plan.Source.the-variants.{Unnamed}
-use Rattle.rules.specs.Moments.{Placement, currentOf, targetOf, after, withinMemory, withinCpu, within, isIdle, bears, bearsAt, withVm, emptyTally, staying, waiting, running, ended, Cell, cell, Moment, numberOf, countsOn, tallyAt, phaseOf, cellsFrom, firstMoment, begun, allRunning}
+use Rattle.rules.specs.Moments.{Placement, placeOf, currentOf, targetOf, atTarget, after, withinMemory, withinCpu, within, isIdle, bears, bearsAt, withVm, emptyTally, staying, waiting, running, ended, Cell, cell, Moment, numberOf, countsOn, tallyAt, phaseOf, cellsFrom, firstMoment, begun, allRunning}
 use Rattle.rules.specs.Orders.{fits, spreads, some, mates, meetsMate}
-use Rattle.rules.specs.Rules.{from, spreadOut, onNodes, keeps, keepsFrom, allowed, aims, named, isPlace, sourced, permitted, fitting, unmet, stepCheck, soundStep, fitsAll, targetCheck}
+use Rattle.rules.specs.Rules.{from, spreadOut, onNodes, keeps, keepsFrom, allowed, aims, named, isPlace, sourced, permitted, fitting, unmet, hasMove, respects, inTurn, stepCheck, soundStep, fitsAll, targetCheck}
 use Rattle.rules.specs.Cost.{memoryOf, stepCost, costFrom, costOf}
 use Rattle.rules.specs.declared.faults.TargetFault.the-variants.{Overfull}
 use Rattle.rules.specs.declared.faults.TargetCheck.the-variants.{Good, Bad}
-use Rattle.rules.specs.declared.faults.StepFault.the-variants.{Misnamed, Misfit}
+use Rattle.rules.specs.declared.faults.StepFault.the-variants.{Misnamed, Misfit, Early}
 use Rattle.rules.specs.declared.faults.StepCheck.the-variants.{Clear, Faulty}
 use Rattle.rules.specs.declared.tally.Tally.{Tally}
 use Rattle.rules.proofs.Laws.Orders.{overAt, allOver}
@@ -103,6 +103,16 @@ comes = record { vm = 1; source = Unnamed; to = 0 } ∷ []
 unfoldable pub hot : Room
 hot = record { nodes = node 9 ∷ node 9 ∷ []; vms = record { memory = 1; cpu = 91; current = 0; target = 1 } ∷ []; constraints = [] }
 
+-- three nodes with room for all; VM 0, from `start` to `goal`, comes before VM 1, from `from` to node 1
+unfoldable pub queue : ℕ → ℕ → ℕ → Room
+queue start goal from = record { nodes = node 9 ∷ node 9 ∷ node 9 ∷ []; vms = vm 3 start goal ∷ vm 2 from 1 ∷ []; constraints = before 0 1 ∷ [] }
+
+unfoldable pub secondGoes : ℕ → Step
+secondGoes d = record { vm = 1; source = Unnamed; to = d } ∷ []
+
+unfoldable pub bothGo : ℕ → Step
+bothGo d = record { vm = 0; source = Unnamed; to = d } ∷ record { vm = 1; source = Unnamed; to = 1 } ∷ []
+
 -- ---- the wrong readings
 
 -- the source is freed when a move begins
@@ -157,6 +167,24 @@ atMemory reserve room = record {
   vms = room .vms;
   constraints = room .constraints;
 }
+
+-- the first's place is asked when the step ends
+unfoldable pub turnAtEnd : Room → Placement → Step → ℕ → ℕ → Bool
+turnAtEnd room places step first second = pick (hasMove step second) (atTarget room (after places step) first) true
+
+-- a move of the first in the same step does no harm
+unfoldable pub turnBeside : Room → Placement → Step → ℕ → ℕ → Bool
+turnBeside room places step first second = pick (hasMove step second) (atTarget room places first) true
+
+-- only a move to its target waits: a pivot does not
+unfoldable pub turnHomeward : Room → Placement → Step → ℕ → ℕ → Bool
+turnHomeward room places step first second =
+    pick (hasMove step second && atTarget room (after places step) second) (atTarget room places first && not (hasMove step first)) true
+
+-- a VM on no node meets every constraint, so a launch does not wait
+unfoldable pub turnRunning : Room → Placement → Step → ℕ → ℕ → Bool
+turnRunning room places step first second =
+    pick (hasMove step second && onNode (placeOf places second)) (atTarget room places first && not (hasMove step first)) true
 
 -- ---- what tells them apart
 
@@ -218,9 +246,25 @@ pub record ToldApart : Type 0 where
   -- a target that fits at one reserve need not at a larger one
   pub target-fits : targetCheck (atReserve 25 (swap 4)) ≡ Good
   pub target-over : targetCheck (atReserve 26 (swap 4)) ≡ Bad Overfull
+  -- the second waits for the step behind the one that brings the first home; the target is not bound
+  pub end-wrong : turnAtEnd (queue 0 2 0) (currentOf (queue 0 2 0)) (bothGo 2) 0 1 ≡ true
+  pub end-right : stepCheck (queue 0 2 0) (currentOf (queue 0 2 0)) (bothGo 2) ≡ Faulty Early
+  pub end-later : stepCheck (queue 0 2 0) (2 ∷ 0 ∷ []) (secondGoes 1) ≡ Clear
+  pub end-target : targetCheck (queue 0 2 0) ≡ Good
+  -- it does not go in the step that takes the first away
+  pub beside-first-wrong : turnBeside (queue 2 2 0) (currentOf (queue 2 2 0)) (bothGo 0) 0 1 ≡ true
+  pub beside-first-right : stepCheck (queue 2 2 0) (currentOf (queue 2 2 0)) (bothGo 0) ≡ Faulty Early
+  -- nor aside, nor from no node
+  pub aside-wrong : turnHomeward (queue 0 2 0) (currentOf (queue 0 2 0)) (secondGoes 2) 0 1 ≡ true
+  pub aside-right : stepCheck (queue 0 2 0) (currentOf (queue 0 2 0)) (secondGoes 2) ≡ Faulty Early
+  pub launch-wrong : turnRunning (queue 0 2 nowhere) (currentOf (queue 0 2 nowhere)) (secondGoes 1) 0 1 ≡ true
+  pub launch-right : stepCheck (queue 0 2 nowhere) (currentOf (queue 0 2 nowhere)) (secondGoes 1) ≡ Faulty Early
+  -- a first that is down is on its target if it is wanted so, and only then
+  pub down-home : stepCheck (queue nowhere nowhere 0) (currentOf (queue nowhere nowhere 0)) (secondGoes 1) ≡ Clear
+  pub down-away : stepCheck (queue nowhere 2 0) (currentOf (queue nowhere 2 0)) (secondGoes 1) ≡ Faulty Early
 
 pub told-apart : ToldApart
-unfolding all has vmsOf nodeOf vmOf onNode currentOf targetOf within bears countsOn tallyAt phaseOf cellsFrom firstMoment begun allRunning fits spreads some mates meetsMate from keepsFrom allowed aims named permitted fitting unmet soundStep stepCheck after isPlace sourced memoryOf stepCost costFrom costOf sumOf overAt allOver swap bothMoves oneRuns overfull oneMove turnover bothAtOnce shutdown launch killed fenced countsFreed tallyFreed fitsFreed fittingEnded unmetEnded fitsEverywhere bearsAt fitsAll targetCheck busy idleComes activeComes bothCome leaves fitsBoth fitsMemory fittingBeside usable usableNode atReserve lean comes hot usableUp atMemory spreadOut onNodes keeps
+unfolding all has vmsOf nodeOf vmOf onNode currentOf targetOf within bears countsOn tallyAt phaseOf cellsFrom firstMoment begun allRunning fits spreads some mates meetsMate from keepsFrom allowed aims named permitted fitting unmet soundStep stepCheck after isPlace sourced memoryOf stepCost costFrom costOf sumOf overAt allOver swap bothMoves oneRuns overfull oneMove turnover bothAtOnce shutdown launch killed fenced countsFreed tallyFreed fitsFreed fittingEnded unmetEnded fitsEverywhere bearsAt fitsAll targetCheck busy idleComes activeComes bothCome leaves fitsBoth fitsMemory fittingBeside usable usableNode atReserve lean comes hot usableUp atMemory spreadOut onNodes keeps hasMove respects inTurn queue secondGoes bothGo turnAtEnd turnBeside turnHomeward turnRunning
 told-apart = record {
   source-wrong = refl;
   source-right = refl;
@@ -264,4 +308,16 @@ told-apart = record {
   lean-later = refl;
   target-fits = refl;
   target-over = refl;
+  end-wrong = refl;
+  end-right = refl;
+  end-later = refl;
+  end-target = refl;
+  beside-first-wrong = refl;
+  beside-first-right = refl;
+  aside-wrong = refl;
+  aside-right = refl;
+  launch-wrong = refl;
+  launch-right = refl;
+  down-home = refl;
+  down-away = refl;
 }

@@ -5,12 +5,13 @@ use mathlib.Core.List.{List, [], _∷_}
 use mathlib.Core.Path.{_≡_, refl, sym, ap, _∙_}
 use lib.ListN.{length}
 use Rattle.records.specs.Base.{pick, all, sumOf}
-use Rattle.records.specs.Room.{Room, vmOf, atReserve, roomOf, roomAt}
+use Rattle.records.specs.Room.{Constraint, ban, fence, spread, latency, before, Room, vmOf, atReserve, roomOf, roomAt}
 use Rattle.records.specs.Plan.{Move, Step}
+use Rattle.records.proofs.Laws.Bools.{all-same}
 use Rattle.records.proofs.Laws.Reserve.{nodes-kept}
 use Rattle.rules.specs.Moments.{Placement, placeOf, currentOf, targetOf, Cell, numberOf, countsOn, Moment, withVm, tallyAt, firstMoment, allRunning}
 use Rattle.rules.specs.Orders.{some, mates, meetsMate}
-use Rattle.rules.specs.Rules.{allowed, aims, named, permitted, unmet}
+use Rattle.rules.specs.Rules.{allowed, aims, named, permitted, unmet, respects, inTurn, waitsFor}
 use Rattle.rules.specs.Cost.{memoryOf, stepCost, costFrom, costOf}
 use Rattle.rules.specs.Verdict.{home}
 use Rattle.rules.specs.Inner.{NeedOf}
@@ -81,6 +82,21 @@ module _ (reserve : ℕ) (room : Room) where
   unfolding unmet meetsMate mates firstMoment atReserve
   unmet-same places step = refl
 
+  pub turn-same : (places : Placement) (step : Step) → inTurn (atReserve reserve room) places step ≡ inTurn room places step
+  unfolding inTurn respects targetOf atReserve
+  turn-same places step = all-same (respects (atReserve reserve room) places step) (respects room places step) one (room .constraints)
+    where
+      one : (k : Constraint) → respects (atReserve reserve room) places step k ≡ respects room places step k
+      one (ban vms nodes) = refl
+      one (fence vms nodes) = refl
+      one (spread vms) = refl
+      one (latency vms groups) = refl
+      one (before first second) = refl
+
+  pub waits-same : (v u : ℕ) → waitsFor (atReserve reserve room) v u ≡ waitsFor room v u
+  unfolding waitsFor atReserve
+  waits-same v u = refl
+
   -- ---- cost
 
   memory-same : (move : Move) → memoryOf (atReserve reserve room) move ≡ memoryOf room move
@@ -92,10 +108,10 @@ module _ (reserve : ℕ) (room : Room) where
   step-same [] = refl
   step-same (move ∷ moves) = rw (memory-same move, step-same moves)
 
-  from-same : (before : ℕ) (steps : List Step) → costFrom (atReserve reserve room) before steps ≡ costFrom room before steps
+  from-same : (spent : ℕ) (steps : List Step) → costFrom (atReserve reserve room) spent steps ≡ costFrom room spent steps
   unfolding costFrom memoryOf vmOf atReserve
-  from-same before [] = refl
-  from-same before (step ∷ steps) = rw (step-same step, from-same (before + stepCost room step) steps)
+  from-same spent [] = refl
+  from-same spent (step ∷ steps) = rw (step-same step, from-same (spent + stepCost room step) steps)
 
   pub cost-same : (steps : List Step) → costOf (atReserve reserve room) steps ≡ costOf room steps
   unfolding costOf

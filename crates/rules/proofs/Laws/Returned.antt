@@ -98,6 +98,7 @@ number-most (Fault.Step StepFault.Elsewhere s) = omega arith
 number-most (Fault.Step StepFault.Forbidden s) = omega arith
 number-most (Fault.Step StepFault.Misfit s) = omega arith
 number-most (Fault.Step StepFault.Mate s) = omega arith
+number-most (Fault.Step StepFault.Early s) = omega arith
 number-most Fault.OffTarget = omega arith
 
 pub tells-accepted : (cost : ℕ) → cost < 2 ^ 43 → TellsVerdict (packed (Verdict.Accepted cost)) (Verdict.Accepted cost)
@@ -141,7 +142,8 @@ faultFrom n s =
     (pick (eqb n 18) (Fault.Step StepFault.Mate s)
     (pick (eqb n 23) Fault.Reserve
     (pick (eqb n 27) (Fault.Step StepFault.Elsewhere s)
-    Fault.OffTarget))))))))))))))))))
+    (pick (eqb n 33) (Fault.Step StepFault.Early s)
+    Fault.OffTarget)))))))))))))))))))
 
 fault-from : (f : Fault) → faultFrom (faultNumber f) (faultStep f) ≡ f
 unfolding faultFrom
@@ -164,6 +166,7 @@ fault-from (Fault.Step StepFault.Elsewhere s) = refl
 fault-from (Fault.Step StepFault.Forbidden s) = refl
 fault-from (Fault.Step StepFault.Misfit s) = refl
 fault-from (Fault.Step StepFault.Mate s) = refl
+fault-from (Fault.Step StepFault.Early s) = refl
 fault-from Fault.OffTarget = refl
 
 -- so two faults with one number and one step are one

@@ -1,4 +1,4 @@
--- Laws on VMs on no node: to no node a move may always begin; no step without fault 15 shuts down a VM that is wanted on a node; and on clusters
+-- Laws on VMs on no node: to no node a move fits and meets nobody at any moment; no step without fault 15 shuts down a VM that is wanted on a node; and on clusters
 -- of version 1, where every VM is on a node.
 use Prim.Native.Nat.{ℕ, zero, suc, _+_, _≤_, _<_}
 use mathlib.Core.Bool.{Bool, true, false, _&&_, _||_, or-true}

@@ -15,10 +15,10 @@ use Rattle.records.proofs.Laws.Bools.{and-left, and-right, and-both}
 use Rattle.records.proofs.Laws.Rows.{node-on}
 use Rattle.rules.specs.Moments.{Placement, placeOf, after, bears, withVm, Phase, staying, waiting, running, ended, cell, Moment, numberOf, countsOn, tallyAt, phaseOf, cellsFrom, firstMoment, atRest, rests, settled, leftAt, placesLeft}
 use Rattle.rules.specs.Orders.{begin, finish, Event, begins, ends, later, Order, done, next, Run, stop, step, fits, meetsMate, EachBegin, SomeBegin, EachMoment, EachChange, EachBeginOfRun, EachMomentOfRun, EachChangeOfRun, MayBegin}
-use Rattle.rules.specs.Rules.{from, allowed, named, permitted, fitting, unmet, soundStep}
-use Rattle.rules.specs.Promises.{afterAll, namedAll, soundAll, Obeys, SoundInOrders, SomeOrder, StaysWithin}
+use Rattle.rules.specs.Rules.{from, allowed, named, permitted, fitting, unmet, inTurn, soundStep}
+use Rattle.rules.specs.Promises.{afterAll, namedAll, soundAll, Obeys, InTurn, SoundInOrders, SomeOrder, StaysWithin}
 use Rattle.rules.proofs.Laws.Bears.{at-node, bears-memory, bears-cpu}
-use Rattle.rules.proofs.Laws.Sound.{sound-named, sound-permitted, sound-fitting, sound-unmet, sound-tests}
+use Rattle.rules.proofs.Laws.Sound.{sound-named, sound-permitted, sound-fitting, sound-unmet, sound-turn, sound-tests}
 use Rattle.rules.proofs.Laws.Orders.{never, load, memoryIn, cpuIn, memory-load, cpu-load, Under, under-self, both, under-load, Onward, none, same, runs, over, stops, onward-self, onward-order, begins-allowed, begins-fit, begins-apart, some-order, some-forbidden, some-misfit, some-mate, after-length, order-leaves}
 
 -- ---- claims over begins
@@ -116,13 +116,13 @@ run-obeys {room} {places} e l (step {moves = moves} {steps = steps} o s r) =
     let left = order-leaves room places moves (sound-named room places moves sound) l o s in
     (order-obeys room places moves sound o, run-obeys (rw (← left) at more) (ap length left ∙ after-length places moves ∙ l) r)
 
--- a step without fault 15 whose orders all obey the rules is sound
-pub step-sound : (room : Room) (places : Placement) (moves : Step) → named room places 0 moves ≡ true →
+-- a step without fault 15 that moves nobody before its turn and whose orders all obey the rules is sound
+pub step-sound : (room : Room) (places : Placement) (moves : Step) → named room places 0 moves ≡ true → inTurn room places moves ≡ true →
     ((end : Moment) (o : Order (firstMoment room places moves) end) → settled end ≡ true → EachBegin (Obeys room) o) → soundStep room places moves ≡ true
-step-sound room places moves n h =
+step-sound room places moves n t h =
     sound-tests room places moves n (decided (permitted room moves) (λ e. forbidden (some-forbidden room places moves n e)))
     (decided (fitting room places moves) (λ e. misfit (some-misfit room places moves n e)))
-    (decided (unmet room places moves) (λ e. mate (some-mate room places moves n e)))
+    (decided (unmet room places moves) (λ e. mate (some-mate room places moves n e))) t
   where
     decided : (b : Bool) → (b ≡ false → ⊥) → b ≡ true
     decided true f = refl
@@ -146,22 +146,24 @@ step-sound room places moves n h =
 -- sound as it is decided is sound over orders
 pub sound-orders : (room : Room) (places : Placement) (moves : Step) → (soundStep room places moves ≡ true) ↔ SoundInOrders room places moves
 sound-orders room places moves = (
-  (λ e. record { well-named = sound-named room places moves e; obeys = λ end o s. order-obeys room places moves e o }),
-  (λ x. step-sound room places moves (x .well-named) (x .obeys)),
+  (λ e. record { well-named = sound-named room places moves e; obeys = λ end o s. order-obeys room places moves e o; in-turn = sound-turn room places moves e }),
+  (λ x. step-sound room places moves (x .well-named) (x .in-turn) (x .obeys)),
 )
 
 pub runs-sound : (room : Room) (places : Placement) (steps : List Step) → namedAll room places steps ≡ true → length places ≡ length (room .vms) →
-    ((last : Placement) (run : Run room places steps last) → EachBeginOfRun (Obeys room) run) → soundAll room places steps ≡ true
+    ((last : Placement) (run : Run room places steps last) → EachBeginOfRun (Obeys room) run) →
+    ((last : Placement) (run : Run room places steps last) → InTurn room run) → soundAll room places steps ≡ true
 unfolding soundAll namedAll
-runs-sound room places [] n l h = refl
-runs-sound room places (moves ∷ steps) n l h =
+runs-sound room places [] n l h t = refl
+runs-sound room places (moves ∷ steps) n l h t =
     let name = and-left (named room places 0 moves) (namedAll room (after places moves) steps) n in
     let more : namedAll room (after places moves) steps ≡ true = and-right (named room places 0 moves) (namedAll room (after places moves) steps) n in
     let o = some-order room places moves in
     let left = order-leaves room places moves name l (o .1) (o .2) in
     and-both
-    (step-sound room places moves name (λ end p s. let r = some-run room (placesLeft end) steps in h (r .0) (step p s (r .1)) .0))
-    (rw left at (runs-sound room (placesLeft (o .0)) steps (rw (← left) at more) (ap length left ∙ after-length places moves ∙ l) (λ last r. h last (step (o .1) (o .2) r) .1)))
+    (step-sound room places moves name (let r = some-run room (placesLeft (o .0)) steps in t (r .0) (step (o .1) (o .2) (r .1)) .0)
+    (λ end p s. let r = some-run room (placesLeft end) steps in h (r .0) (step p s (r .1)) .0))
+    (rw left at (runs-sound room (placesLeft (o .0)) steps (rw (← left) at more) (ap length left ∙ after-length places moves ∙ l) (λ last r. h last (step (o .1) (o .2) r) .1) (λ last r. t last (step (o .1) (o .2) r) .1)))
 
 -- ---- how full a node is along a run
 

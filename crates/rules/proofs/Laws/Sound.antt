@@ -1,4 +1,4 @@
--- Laws on sound steps: what the first fault says of the five tests; a part of a sound step is sound.
+-- Laws on sound steps: what the first fault says of the six tests; a part of a sound step is sound.
 use Prim.Native.Nat.{ℕ, zero, suc, _≤_, _<_}
 use mathlib.Core.Bool.{Bool, true, false, not, _&&_}
 use mathlib.Core.List.{List, [], _∷_, Sublistᴰ, Sublistᴰ·slnil, Sublistᴰ·cons, Sublistᴰ·cons-cons}
@@ -11,20 +11,21 @@ use borrow.Author.Tests.{eqb-true, ne-eqb}
 use Rattle.records.specs.Base.{pick, all}
 use Rattle.records.specs.Room.{Room, vmOf}
 use Rattle.records.specs.Plan.{Move, Step}
-use Rattle.records.proofs.Laws.Bools.{and-left, and-right, and-both}
+use Rattle.records.proofs.Laws.Bools.{and-left, and-right, and-both, all-more}
 use Rattle.rules.specs.Moments.{Placement, placeOf, staying, waiting, cell, countsOn, bearsAt, tallyAt, phaseOf, cellsFrom, firstMoment, begun, allRunning}
 use Rattle.rules.specs.Orders.{meetsMate}
-use Rattle.rules.specs.Rules.{allowed, named, sourced, permitted, fitting, unmet, stepCheck, soundStep}
-use Rattle.rules.specs.declared.faults.StepFault.the-variants.{Misnamed, Elsewhere, Forbidden, Misfit, Mate}
+use Rattle.rules.specs.Rules.{allowed, named, sourced, permitted, fitting, unmet, inTurn, stepCheck, soundStep}
+use Rattle.rules.specs.declared.faults.StepFault.the-variants.{Misnamed, Elsewhere, Forbidden, Misfit, Mate, Early}
 use Rattle.rules.specs.declared.faults.StepCheck.{StepCheck}
 use Rattle.rules.specs.declared.faults.StepCheck.the-variants.{Clear, Faulty}
 use Rattle.rules.proofs.Laws.Orders.{never, Under, empty, both, meets-under, bears-under, named-least, named-vm, named-sends, named-off, named-rest, named-cons}
+use Rattle.rules.proofs.Laws.Turn.{turn-part}
 
 -- the first fault from the tests
-abbrev found : Bool → Bool → Bool → Bool → Bool → StepCheck
-found n s p f u =
+abbrev found : Bool → Bool → Bool → Bool → Bool → Bool → StepCheck
+found n s p f u t =
     pick (not n) (Faulty Misnamed)
-    (pick (not s) (Faulty Elsewhere) (pick (not p) (Faulty Forbidden) (pick (not f) (Faulty Misfit) (pick (not u) (Faulty Mate) Clear))))
+    (pick (not s) (Faulty Elsewhere) (pick (not p) (Faulty Forbidden) (pick (not f) (Faulty Misfit) (pick (not u) (Faulty Mate) (pick (not t) (Faulty Early) Clear)))))
 
 -- the tests that a fault tells
 pub record TestsElsewhere (n s : Bool) : Type 0 where
@@ -49,53 +50,76 @@ pub record TestsMate (n s p f u : Bool) : Type 0 where
   pub fit : f ≡ true
   pub mate : u ≡ false
 
-none-found : (n s p f u : Bool) → found n s p f u ≡ Clear → ((n && (p && (f && u))) ≡ true) × (s ≡ true)
-none-found false s p f u e = never (cc)
-none-found true false p f u e = never (cc)
-none-found true true false f u e = never (cc)
-none-found true true true false u e = never (cc)
-none-found true true true true false e = never (cc)
-none-found true true true true true e = (refl, refl)
+pub record TestsEarly (n s p f u t : Bool) : Type 0 where
+  pub well-named : n ≡ true
+  pub well-sourced : s ≡ true
+  pub permitted : p ≡ true
+  pub fit : f ≡ true
+  pub apart : u ≡ true
+  pub early : t ≡ false
 
-misnamed-found : (n s p f u : Bool) → found n s p f u ≡ Faulty Misnamed → n ≡ false
-misnamed-found false s p f u e = refl
-misnamed-found true false p f u e = never (cc)
-misnamed-found true true false f u e = never (cc)
-misnamed-found true true true false u e = never (cc)
-misnamed-found true true true true false e = never (cc)
-misnamed-found true true true true true e = never (cc)
+none-found : (n s p f u t : Bool) → found n s p f u t ≡ Clear → ((n && (p && (f && (u && t)))) ≡ true) × (s ≡ true)
+none-found false s p f u t e = never (cc)
+none-found true false p f u t e = never (cc)
+none-found true true false f u t e = never (cc)
+none-found true true true false u t e = never (cc)
+none-found true true true true false t e = never (cc)
+none-found true true true true true false e = never (cc)
+none-found true true true true true true e = (refl, refl)
 
-elsewhere-found : (n s p f u : Bool) → found n s p f u ≡ Faulty Elsewhere → TestsElsewhere n s
-elsewhere-found false s p f u e = never (cc)
-elsewhere-found true false p f u e = record { well-named = refl; elsewhere = refl }
-elsewhere-found true true false f u e = never (cc)
-elsewhere-found true true true false u e = never (cc)
-elsewhere-found true true true true false e = never (cc)
-elsewhere-found true true true true true e = never (cc)
+misnamed-found : (n s p f u t : Bool) → found n s p f u t ≡ Faulty Misnamed → n ≡ false
+misnamed-found false s p f u t e = refl
+misnamed-found true false p f u t e = never (cc)
+misnamed-found true true false f u t e = never (cc)
+misnamed-found true true true false u t e = never (cc)
+misnamed-found true true true true false t e = never (cc)
+misnamed-found true true true true true false e = never (cc)
+misnamed-found true true true true true true e = never (cc)
 
-forbidden-found : (n s p f u : Bool) → found n s p f u ≡ Faulty Forbidden → TestsForbidden n s p
-forbidden-found false s p f u e = never (cc)
-forbidden-found true false p f u e = never (cc)
-forbidden-found true true false f u e = record { well-named = refl; well-sourced = refl; forbidden = refl }
-forbidden-found true true true false u e = never (cc)
-forbidden-found true true true true false e = never (cc)
-forbidden-found true true true true true e = never (cc)
+elsewhere-found : (n s p f u t : Bool) → found n s p f u t ≡ Faulty Elsewhere → TestsElsewhere n s
+elsewhere-found false s p f u t e = never (cc)
+elsewhere-found true false p f u t e = record { well-named = refl; elsewhere = refl }
+elsewhere-found true true false f u t e = never (cc)
+elsewhere-found true true true false u t e = never (cc)
+elsewhere-found true true true true false t e = never (cc)
+elsewhere-found true true true true true false e = never (cc)
+elsewhere-found true true true true true true e = never (cc)
 
-misfit-found : (n s p f u : Bool) → found n s p f u ≡ Faulty Misfit → TestsMisfit n s p f
-misfit-found false s p f u e = never (cc)
-misfit-found true false p f u e = never (cc)
-misfit-found true true false f u e = never (cc)
-misfit-found true true true false u e = record { well-named = refl; well-sourced = refl; permitted = refl; misfit = refl }
-misfit-found true true true true false e = never (cc)
-misfit-found true true true true true e = never (cc)
+forbidden-found : (n s p f u t : Bool) → found n s p f u t ≡ Faulty Forbidden → TestsForbidden n s p
+forbidden-found false s p f u t e = never (cc)
+forbidden-found true false p f u t e = never (cc)
+forbidden-found true true false f u t e = record { well-named = refl; well-sourced = refl; forbidden = refl }
+forbidden-found true true true false u t e = never (cc)
+forbidden-found true true true true false t e = never (cc)
+forbidden-found true true true true true false e = never (cc)
+forbidden-found true true true true true true e = never (cc)
 
-mate-found : (n s p f u : Bool) → found n s p f u ≡ Faulty Mate → TestsMate n s p f u
-mate-found false s p f u e = never (cc)
-mate-found true false p f u e = never (cc)
-mate-found true true false f u e = never (cc)
-mate-found true true true false u e = never (cc)
-mate-found true true true true false e = record { well-named = refl; well-sourced = refl; permitted = refl; fit = refl; mate = refl }
-mate-found true true true true true e = never (cc)
+misfit-found : (n s p f u t : Bool) → found n s p f u t ≡ Faulty Misfit → TestsMisfit n s p f
+misfit-found false s p f u t e = never (cc)
+misfit-found true false p f u t e = never (cc)
+misfit-found true true false f u t e = never (cc)
+misfit-found true true true false u t e = record { well-named = refl; well-sourced = refl; permitted = refl; misfit = refl }
+misfit-found true true true true false t e = never (cc)
+misfit-found true true true true true false e = never (cc)
+misfit-found true true true true true true e = never (cc)
+
+mate-found : (n s p f u t : Bool) → found n s p f u t ≡ Faulty Mate → TestsMate n s p f u
+mate-found false s p f u t e = never (cc)
+mate-found true false p f u t e = never (cc)
+mate-found true true false f u t e = never (cc)
+mate-found true true true false u t e = never (cc)
+mate-found true true true true false t e = record { well-named = refl; well-sourced = refl; permitted = refl; fit = refl; mate = refl }
+mate-found true true true true true false e = never (cc)
+mate-found true true true true true true e = never (cc)
+
+early-found : (n s p f u t : Bool) → found n s p f u t ≡ Faulty Early → TestsEarly n s p f u t
+early-found false s p f u t e = never (cc)
+early-found true false p f u t e = never (cc)
+early-found true true false f u t e = never (cc)
+early-found true true true false u t e = never (cc)
+early-found true true true true false t e = never (cc)
+early-found true true true true true false e = record { well-named = refl; well-sourced = refl; permitted = refl; fit = refl; apart = refl; early = refl }
+early-found true true true true true true e = never (cc)
 
 module _ (room : Room) (places : Placement) (step : Step) where
   -- a sound step, by its tests
@@ -104,7 +128,7 @@ module _ (room : Room) (places : Placement) (step : Step) where
     unfolding soundStep
     sound-named = and-left (named room places 0 step) _ e
 
-    rest : (permitted room step && (fitting room places step && unmet room places step)) ≡ true
+    rest : (permitted room step && (fitting room places step && (unmet room places step && inTurn room places step))) ≡ true
     unfolding soundStep
     rest = and-right (named room places 0 step) _ e
 
@@ -114,40 +138,46 @@ module _ (room : Room) (places : Placement) (step : Step) where
     pub sound-fitting : fitting room places step ≡ true
     sound-fitting = and-left (fitting room places step) _ (and-right (permitted room step) _ rest)
 
+    last : (unmet room places step && inTurn room places step) ≡ true
+    last = and-right (fitting room places step) _ (and-right (permitted room step) _ rest)
+
     pub sound-unmet : unmet room places step ≡ true
-    sound-unmet = and-right (fitting room places step) _ (and-right (permitted room step) _ rest)
+    sound-unmet = and-left (unmet room places step) _ last
+
+    pub sound-turn : inTurn room places step ≡ true
+    sound-turn = and-right (unmet room places step) _ last
 
   pub sound-tests : named room places 0 step ≡ true → permitted room step ≡ true → fitting room places step ≡ true → unmet room places step ≡ true →
-      soundStep room places step ≡ true
+      inTurn room places step ≡ true → soundStep room places step ≡ true
   unfolding soundStep
-  sound-tests n p f u = and-both n (and-both p (and-both f u))
+  sound-tests n p f u t = and-both n (and-both p (and-both f (and-both u t)))
 
   -- the first fault, by the tests
   pub none-check : (stepCheck room places step ≡ Clear) ↔ ((soundStep room places step ≡ true) × (sourced places step ≡ true))
   unfolding stepCheck soundStep
   none-check = (
-    none-found (named room places 0 step) (sourced places step) (permitted room step) (fitting room places step) (unmet room places step),
-    λ t. simp (sound-named (t .0), t .1, sound-permitted (t .0), sound-fitting (t .0), sound-unmet (t .0)),
+    none-found (named room places 0 step) (sourced places step) (permitted room step) (fitting room places step) (unmet room places step) (inTurn room places step),
+    λ t. simp (sound-named (t .0), t .1, sound-permitted (t .0), sound-fitting (t .0), sound-unmet (t .0), sound-turn (t .0)),
   )
 
   pub misnamed-check : (stepCheck room places step ≡ Faulty Misnamed) ↔ (named room places 0 step ≡ false)
   unfolding stepCheck
   misnamed-check = (
-    misnamed-found (named room places 0 step) (sourced places step) (permitted room step) (fitting room places step) (unmet room places step),
+    misnamed-found (named room places 0 step) (sourced places step) (permitted room step) (fitting room places step) (unmet room places step) (inTurn room places step),
     λ t. simp t,
   )
 
   pub elsewhere-check : (stepCheck room places step ≡ Faulty Elsewhere) ↔ TestsElsewhere (named room places 0 step) (sourced places step)
   unfolding stepCheck
   elsewhere-check = (
-    elsewhere-found (named room places 0 step) (sourced places step) (permitted room step) (fitting room places step) (unmet room places step),
+    elsewhere-found (named room places 0 step) (sourced places step) (permitted room step) (fitting room places step) (unmet room places step) (inTurn room places step),
     λ t. simp (t .well-named, t .elsewhere),
   )
 
   pub forbidden-check : (stepCheck room places step ≡ Faulty Forbidden) ↔ TestsForbidden (named room places 0 step) (sourced places step) (permitted room step)
   unfolding stepCheck
   forbidden-check = (
-    forbidden-found (named room places 0 step) (sourced places step) (permitted room step) (fitting room places step) (unmet room places step),
+    forbidden-found (named room places 0 step) (sourced places step) (permitted room step) (fitting room places step) (unmet room places step) (inTurn room places step),
     λ t. simp (t .well-named, t .well-sourced, t .forbidden),
   )
 
@@ -155,7 +185,7 @@ module _ (room : Room) (places : Placement) (step : Step) where
       TestsMisfit (named room places 0 step) (sourced places step) (permitted room step) (fitting room places step)
   unfolding stepCheck
   misfit-check = (
-    misfit-found (named room places 0 step) (sourced places step) (permitted room step) (fitting room places step) (unmet room places step),
+    misfit-found (named room places 0 step) (sourced places step) (permitted room step) (fitting room places step) (unmet room places step) (inTurn room places step),
     λ t. simp (t .well-named, t .well-sourced, t .permitted, t .misfit),
   )
 
@@ -163,8 +193,16 @@ module _ (room : Room) (places : Placement) (step : Step) where
       TestsMate (named room places 0 step) (sourced places step) (permitted room step) (fitting room places step) (unmet room places step)
   unfolding stepCheck
   mate-check = (
-    mate-found (named room places 0 step) (sourced places step) (permitted room step) (fitting room places step) (unmet room places step),
+    mate-found (named room places 0 step) (sourced places step) (permitted room step) (fitting room places step) (unmet room places step) (inTurn room places step),
     λ t. simp (t .well-named, t .well-sourced, t .permitted, t .fit, t .mate),
+  )
+
+  pub early-check : (stepCheck room places step ≡ Faulty Early) ↔
+      TestsEarly (named room places 0 step) (sourced places step) (permitted room step) (fitting room places step) (unmet room places step) (inTurn room places step)
+  unfolding stepCheck
+  early-check = (
+    early-found (named room places 0 step) (sourced places step) (permitted room step) (fitting room places step) (unmet room places step) (inTurn room places step),
+    λ t. simp (t .well-named, t .well-sourced, t .permitted, t .fit, t .apart, t .early),
   )
 
 -- ---- a part of a sound step, its moves in order, is sound
@@ -174,11 +212,6 @@ unfolding all
 all-part q Sublistᴰ·slnil e = e
 all-part q (Sublistᴰ·cons {a = a} {l₂ = l} s) e = all-part q s (and-right (q a) (all q l) e)
 all-part q (Sublistᴰ·cons-cons {b = b} {l₂ = l} p s) e = and-both (ap q p ∙ and-left (q b) (all q l) e) (all-part q s (and-right (q b) (all q l) e))
-
-pub all-more : {A : Type 0} (p q : A → Bool) → ((x : A) → p x ≡ true → q x ≡ true) → (xs : List A) → all p xs ≡ true → all q xs ≡ true
-unfolding all
-all-more p q h [] e = e
-all-more p q h (x ∷ xs) e = and-both (h x (and-left (p x) (all p xs) e)) (all-more p q h xs (and-right (p x) (all p xs) e))
 
 module _ (room : Room) (places : Placement) where
   pub named-part : (low least : ℕ) {part whole : Step} → Sublistᴰ part whole → low ≤ least → named room places least whole ≡ true → named room places low part ≡ true
@@ -284,3 +317,4 @@ sound-part room places {part} {whole} s e =
     sound-tests room places part (named-part room places 0 0 s (omega arith) n)
     (all-part (λ move. allowed room (move .vm) (move .to)) s (sound-permitted room places whole e))
     (fitting-part room places s n (sound-fitting room places whole e)) (unmet-part room places s n (sound-unmet room places whole e))
+    (turn-part room places s (sound-turn room places whole e))

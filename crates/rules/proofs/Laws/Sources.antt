@@ -1,6 +1,6 @@
 -- Laws on the sources that moves name: the pass for 27 and what it means; the sources of an accepted plan; that nothing else looks at them.
 use Prim.Native.Nat.{ℕ, zero, suc, _+_, _≤_, _<_, max}
-use mathlib.Core.Bool.{Bool, true, false, not, _&&_, false≢true}
+use mathlib.Core.Bool.{Bool, true, false, not, _&&_, _||_, false≢true}
 use mathlib.Core.List.{List, [], _∷_, map}
 use mathlib.Core.Path.{_≡_, refl, sym, ap, ap₂, _∙_}
 use native.Mathlib.Numerals.{add-one}
@@ -10,21 +10,20 @@ use lib.Seq.{getD-take}
 use lib.Dec.{eqb}
 use borrow.Author.Tests.{eqb-true, eqb-false}
 use Rattle.records.specs.Base.{pick, all, sumOf}
-use Rattle.records.specs.Room.{Room, vmOf, vmCount}
+use Rattle.records.specs.Room.{Constraint, ban, fence, spread, latency, before, Room, vmOf, vmCount}
 use Rattle.records.specs.Plan.{Move, Step, withSources, noMove, moveOf, moveCount, stepAt}
 use Rattle.records.specs.Inner.{tellsSource, tellsSources}
 use Rattle.records.specs.declared.plan.Source.{Source}
 use Rattle.records.specs.declared.plan.Source.the-variants.{Unnamed, Named}
-use Rattle.records.proofs.Laws.Bools.{and-left, and-right, and-both, all-at}
+use Rattle.records.proofs.Laws.Bools.{and-left, and-right, and-both, all-at, all-same as all-alike, all-more}
 use Rattle.records.proofs.Laws.Steps.{step-length}
 use Rattle.rules.specs.Moments.{Placement, placeOf, after, bearsAt, waiting, tallyAt, phaseOf, cellsFrom, firstMoment, allRunning}
-use Rattle.rules.specs.Orders.{Order, Run, stop, step, meetsMate}
-use Rattle.rules.specs.Rules.{allowed, named, isPlace, sourced, permitted, fitting, unmet, soundStep}
+use Rattle.rules.specs.Orders.{Order, Run, stop, step, some, meetsMate}
+use Rattle.rules.specs.Rules.{allowed, named, isPlace, sourced, permitted, fitting, unmet, hasMove, respects, inTurn, soundStep}
 use Rattle.rules.specs.Cost.{memoryOf, stepCost, costFrom, costOf}
 use Rattle.rules.specs.Promises.{afterAll, sourcedAll, soundAll, NamesElsewhere, NamesPlaces, SourcesUnread}
 use Rattle.rules.specs.Inner.{held, Aimed}
 use Rattle.rules.proofs.Laws.Places.{step-cons}
-use Rattle.rules.proofs.Laws.Sound.{all-more}
 use Rattle.rules.proofs.Laws.Runs.{sound-all-named, run-ends}
 
 -- ---- one source
@@ -187,19 +186,36 @@ module _ (names : Move → Source) where
   cost-step-unread room [] = refl
   cost-step-unread room (move ∷ moves) = ap (max (memoryOf room move)) (cost-step-unread room moves)
 
-  cost-sum-unread : (room : Room) (before : ℕ) (moves : Step) →
-      sumOf (λ move. memoryOf room move + before) (withSources names moves) ≡ sumOf (λ move. memoryOf room move + before) moves
+  cost-sum-unread : (room : Room) (spent : ℕ) (moves : Step) →
+      sumOf (λ move. memoryOf room move + spent) (withSources names moves) ≡ sumOf (λ move. memoryOf room move + spent) moves
   unfolding withSources sumOf memoryOf
-  cost-sum-unread room before [] = refl
-  cost-sum-unread room before (move ∷ moves) = ap (λ (k : ℕ). memoryOf room move + before + k) (cost-sum-unread room before moves)
+  cost-sum-unread room spent [] = refl
+  cost-sum-unread room spent (move ∷ moves) = ap (λ (k : ℕ). memoryOf room move + spent + k) (cost-sum-unread room spent moves)
 
-  cost-from-unread : (room : Room) (before : ℕ) (steps : List Step) → costFrom room before (map (withSources names) steps) ≡ costFrom room before steps
+  cost-from-unread : (room : Room) (spent : ℕ) (steps : List Step) → costFrom room spent (map (withSources names) steps) ≡ costFrom room spent steps
   unfolding costFrom
-  cost-from-unread room before [] = refl
-  cost-from-unread room before (moves ∷ steps) =
-      rw (cost-sum-unread room before moves, cost-step-unread room moves, cost-from-unread room (before + stepCost room moves) steps)
+  cost-from-unread room spent [] = refl
+  cost-from-unread room spent (moves ∷ steps) =
+      rw (cost-sum-unread room spent moves, cost-step-unread room moves, cost-from-unread room (spent + stepCost room moves) steps)
+
+  moves-unread : (moves : Step) (v : ℕ) → hasMove (withSources names moves) v ≡ hasMove moves v
+  unfolding withSources hasMove some
+  moves-unread [] v = refl
+  moves-unread (move ∷ moves) v = ap (λ (b : Bool). eqb (move .vm) v || b) (moves-unread moves v)
 
   module _ (room : Room) where
+    respects-unread : (places : Placement) (moves : Step) (k : Constraint) → respects room places (withSources names moves) k ≡ respects room places moves k
+    unfolding respects
+    respects-unread places moves (ban vms nodes) = refl
+    respects-unread places moves (fence vms nodes) = refl
+    respects-unread places moves (spread vms) = refl
+    respects-unread places moves (latency vms groups) = refl
+    respects-unread places moves (before first second) = rw (moves-unread moves first, moves-unread moves second)
+
+    turn-unread : (places : Placement) (moves : Step) → inTurn room places (withSources names moves) ≡ inTurn room places moves
+    unfolding inTurn
+    turn-unread places moves = all-alike (respects room places (withSources names moves)) (respects room places moves) (respects-unread places moves) (room .constraints)
+
     moment-unread : (places : Placement) (moves : Step) → firstMoment room places (withSources names moves) ≡ firstMoment room places moves
     unfolding firstMoment
     moment-unread places moves = cells-unread places moves 0 (length (room .vms))
@@ -218,6 +234,7 @@ module _ (names : Move → Source) where
           all-unread (allowed room) moves,
           all-unread (λ v d. bearsAt room d (tallyAt room d (allRunning (firstMoment room places moves))) (vmOf room v)) moves,
           all-unread (λ v d. not (meetsMate room (allRunning (firstMoment room places moves)) v d)) moves,
+          turn-unread places moves,
         )
 
     run-off : (places last : Placement) (steps : List Step) → Run room places (map (withSources names) steps) last → Run room places steps last

@@ -10,7 +10,7 @@ use borrow.Author.Tests.{leb-true, le-leb, not-false}
 use Rattle.records.specs.Base.{pick, all}
 use Rattle.records.specs.Room.{Node, Vm, Room, nodeOf, vmOf, usable, usableNode, atReserve, roomOf, roomAt, clusterCheck}
 use Rattle.records.specs.Plan.{Step, stepsOf}
-use Rattle.records.proofs.Laws.Bools.{and-left, and-right, and-both}
+use Rattle.records.proofs.Laws.Bools.{and-left, and-right, and-both, all-more}
 use Rattle.records.specs.declared.faults.ClusterCheck.{ClusterCheck}
 use Rattle.records.proofs.Laws.Cluster.{nodes-most, nodes-count}
 use Rattle.records.proofs.Laws.Reserve.{node-usable, usable-less, nodes-kept, record-room}
@@ -25,15 +25,15 @@ use Rattle.rules.specs.declared.faults.TargetCheck.{TargetCheck}
 use Rattle.rules.specs.declared.faults.Verdict.{Verdict}
 use Rattle.rules.specs.declared.tally.Tally.{Tally}
 use Rattle.rules.proofs.Laws.Bears.{bears-by, bears-memory, bears-cpu, at-more}
-use Rattle.rules.proofs.Laws.Reserve.{vm-same, current-same, target-same, home-same, moment-same, tally-same, named-same, permitted-same, unmet-same, cost-same}
+use Rattle.rules.proofs.Laws.Reserve.{vm-same, current-same, target-same, home-same, moment-same, tally-same, named-same, permitted-same, unmet-same, turn-same, cost-same}
 use Rattle.rules.proofs.Laws.Orders.{never}
 use Rattle.rules.proofs.Laws.Returned.{says-accepted}
 use Rattle.rules.proofs.Laws.Runs.{stays-within}
-use Rattle.rules.proofs.Laws.Sound.{all-more, sound-named, sound-permitted, sound-fitting, sound-unmet, sound-tests}
+use Rattle.rules.proofs.Laws.Sound.{sound-named, sound-permitted, sound-fitting, sound-unmet, sound-turn, sound-tests}
 use Rattle.rules.proofs.Laws.Verdicts.{shaped-verdict, steps-good, current-length, accepted-steps, only-holds}
 
 -- a target without a fault fits, and keeps the constraints
-good-target : (fit kept : Bool) → pick (not fit) (TargetCheck.Bad TargetFault.Overfull) (pick (not kept) (TargetCheck.Bad TargetFault.Broken) TargetCheck.Good) ≡ TargetCheck.Good →
+pub good-target : (fit kept : Bool) → pick (not fit) (TargetCheck.Bad TargetFault.Overfull) (pick (not kept) (TargetCheck.Bad TargetFault.Broken) TargetCheck.Good) ≡ TargetCheck.Good →
     (fit ≡ true) × (kept ≡ true)
 good-target true true e = (refl, refl)
 good-target true false e = never cc
@@ -85,6 +85,7 @@ module _ (less more : ℕ) (room : Room) (h : less ≤ more) where
       (permitted-same less room step ∙ sym (permitted-same more room step) ∙ sound-permitted (atReserve more room) places step e)
       (fitting-still places step (sound-fitting (atReserve more room) places step e))
       (unmet-same less room places step ∙ sym (unmet-same more room places step) ∙ sound-unmet (atReserve more room) places step e)
+      (turn-same less room places step ∙ sym (turn-same more room places step) ∙ sound-turn (atReserve more room) places step e)
 
   all-still : (places : Placement) (steps : List Step) → soundAll (atReserve more room) places steps ≡ true → soundAll (atReserve less room) places steps ≡ true
   unfolding soundAll

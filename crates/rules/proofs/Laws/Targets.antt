@@ -14,10 +14,10 @@ use mir.Val.{Fits}
 use borrow.Author.Tests.{lt-ltb, le-ltb, eq-eqb, ne-eqb}
 use Rattle.records.specs.Base.{pick, all}
 use Rattle.records.specs.Bytes.{byteAt}
-use Rattle.records.specs.Room.{Constraint, ban, fence, spread, latency, kindOf, vmsOf, nodesOf, groupsOf, listOk, nodeOf, vmOf, Room, roomOf, roomAt, nodeCount, vmCount, nodesAt, nodesEnd, groupsFrom, othersAt, constraintOf, clusterCheck}
+use Rattle.records.specs.Room.{Constraint, ban, fence, spread, latency, before, kindOf, vmsOf, nodesOf, groupsOf, listOk, nodeOf, vmOf, Room, roomOf, roomAt, nodeCount, vmCount, nodesAt, nodesEnd, groupsFrom, othersAt, constraintOf, clusterCheck}
 use Rattle.records.specs.Inner.{Below}
 use Rattle.records.specs.declared.constraints.Kind.{Kind}
-use Rattle.records.specs.declared.constraints.Kind.the-variants.{Ban, Fence, Spread, Latency}
+use Rattle.records.specs.declared.constraints.Kind.the-variants.{Ban, Fence, Spread, Latency, Before}
 use Rattle.records.specs.declared.faults.ClusterCheck.the-variants.{Whole}
 use Rattle.records.proofs.Laws.Bools.{and-left, and-right}
 use Rattle.records.proofs.Laws.Lists.{list-below}
@@ -227,6 +227,7 @@ module _ (places vms : List ℕ) (k : Constraint) (kind : Kind) (a : kind ≡ ki
   ban-kept (fence xs nodes) e = let z : _≡_ {A = ℕ} 0 1 = cc in absurd (omega arith)
   ban-kept (spread xs) e = let z : _≡_ {A = ℕ} 0 1 = cc in absurd (omega arith)
   ban-kept (latency xs groups) e = let z : _≡_ {A = ℕ} 0 1 = cc in absurd (omega arith)
+  ban-kept (before first second) e = let z : _≡_ {A = ℕ} 0 1 = cc in absurd (omega arith)
 
   fence-kept : (k : Constraint) → kindOf k ≡ Fence → keepsIn places k ≡ clearOf (stopped (replicate 64 1) 0 (nodesOf k)) places (vmsOf k)
   unfolding keepsIn kindOf nodesOf vmsOf
@@ -234,6 +235,7 @@ module _ (places vms : List ℕ) (k : Constraint) (kind : Kind) (a : kind ≡ ki
   fence-kept (fence xs nodes) e = refl
   fence-kept (spread xs) e = let z : _≡_ {A = ℕ} 0 1 = cc in absurd (omega arith)
   fence-kept (latency xs groups) e = let z : _≡_ {A = ℕ} 0 1 = cc in absurd (omega arith)
+  fence-kept (before first second) e = let z : _≡_ {A = ℕ} 0 1 = cc in absurd (omega arith)
 
   spread-kept : (k : Constraint) → kindOf k ≡ Spread → keepsIn places k ≡ goUnmet (replicate 256 0) places (vmsOf k)
   unfolding keepsIn kindOf vmsOf
@@ -241,6 +243,7 @@ module _ (places vms : List ℕ) (k : Constraint) (kind : Kind) (a : kind ≡ ki
   spread-kept (fence xs nodes) e = let z : _≡_ {A = ℕ} 0 1 = cc in absurd (omega arith)
   spread-kept (spread xs) e = refl
   spread-kept (latency xs groups) e = let z : _≡_ {A = ℕ} 0 1 = cc in absurd (omega arith)
+  spread-kept (before first second) e = let z : _≡_ {A = ℕ} 0 1 = cc in absurd (omega arith)
 
   latency-kept : (k : Constraint) → kindOf k ≡ Latency → keepsIn places k ≡ (allDown places (vmsOf k) || some (groupHolds places (vmsOf k)) (groupsOf k))
   unfolding keepsIn kindOf vmsOf groupsOf
@@ -248,6 +251,18 @@ module _ (places vms : List ℕ) (k : Constraint) (kind : Kind) (a : kind ≡ ki
   latency-kept (fence xs nodes) e = let z : _≡_ {A = ℕ} 0 1 = cc in absurd (omega arith)
   latency-kept (spread xs) e = let z : _≡_ {A = ℕ} 0 1 = cc in absurd (omega arith)
   latency-kept (latency xs groups) e = refl
+  latency-kept (before first second) e = let z : _≡_ {A = ℕ} 0 1 = cc in absurd (omega arith)
+
+  before-kept : (k : Constraint) → kindOf k ≡ Before → keepsIn places k ≡ true
+  unfolding keepsIn kindOf
+  before-kept (ban xs nodes) e = let z : _≡_ {A = ℕ} 0 1 = cc in absurd (omega arith)
+  before-kept (fence xs nodes) e = let z : _≡_ {A = ℕ} 0 1 = cc in absurd (omega arith)
+  before-kept (spread xs) e = let z : _≡_ {A = ℕ} 0 1 = cc in absurd (omega arith)
+  before-kept (latency xs groups) e = let z : _≡_ {A = ℕ} 0 1 = cc in absurd (omega arith)
+  before-kept (before first second) e = refl
+
+  pub kept-before : kind ≡ Before → true ≡ keepsIn places k
+  kept-before b = sym (before-kept k (sym a ∙ b))
 
   pub kept-ban : (nodes stop : List ℕ) (r : Bool) → nodes ≡ nodesOf k → stop ≡ stopped (replicate 64 0) 1 nodes → r ≡ clearOf stop places vms → kind ≡ Ban → r ≡ keepsIn places k
   kept-ban nodes stop r n s e b = e ∙ rw (s, n, v) (sym (ban-kept k (sym a ∙ b)))

@@ -18,18 +18,19 @@ use Rattle.records.proofs.Laws.Bools.{and-left, and-right, and-both}
 use Rattle.records.proofs.Laws.Steps.{plan-empty, empty-steps, steps-length, steps-most}
 use Rattle.records.proofs.Laws.RoundTrip.{header-whole, header-steps}
 use Rattle.rules.specs.Moments.{Placement, placeOf, currentOf, targetOf, after}
-use Rattle.rules.specs.Rules.{from, targetCheck, sourced, fitting, stepCheck, soundStep}
+use Rattle.rules.specs.Rules.{from, targetCheck, sourced, fitting, unmet, stepCheck, soundStep}
 use Rattle.rules.specs.Cost.{costFrom, costOf}
 use Rattle.rules.specs.Verdict.{home, onReserve, onCluster, onTarget, onPlan, onStep, stepsVerdict, planVerdict, verdictOf, faultStep}
-use Rattle.rules.specs.Promises.{afterAll, namedAll, sourcedAll, soundAll, Shaped, EveryRun, FaultNames, FaultSource, FaultDestination, FaultFit, FaultMate, FirstAtFault, EndsAway}
+use Rattle.rules.specs.Promises.{afterAll, namedAll, sourcedAll, soundAll, Shaped, EveryRun, FaultNames, FaultSource, FaultDestination, FaultFit, FaultMate, FaultTurn, FirstAtFault, EndsAway}
 use Rattle.rules.specs.declared.faults.TargetCheck.{TargetCheck}
 use Rattle.rules.specs.declared.faults.StepFault.{StepFault}
 use Rattle.rules.specs.declared.faults.StepCheck.{StepCheck}
 use Rattle.rules.specs.declared.faults.Fault.{Fault}
 use Rattle.rules.specs.declared.faults.Verdict.{Verdict}
 use Rattle.rules.proofs.Laws.Orders.{never}
-use Rattle.rules.proofs.Laws.Sound.{none-check, misnamed-check, elsewhere-check, forbidden-check, misfit-check, mate-check}
+use Rattle.rules.proofs.Laws.Sound.{none-check, misnamed-check, elsewhere-check, forbidden-check, misfit-check, mate-check, early-check}
 use Rattle.rules.proofs.Laws.Sources.{wrong-found, wrong-refused, sourced-at}
+use Rattle.rules.proofs.Laws.Waiting.{run-turn}
 use Rattle.rules.proofs.Laws.Runs.{sound-all-named, misfit-exact, mate-exact, run-ends, some-run, run-obeys, runs-sound}
 
 -- ---- steps in turn
@@ -172,7 +173,7 @@ refused-steps room good fault places number (suc n) (step ∷ steps) r =
       check = r .check;
     }))
 
--- ---- 15 to 18 and 27 of a step, by what they mean
+-- ---- 15 to 18, 27 and 33 of a step, by what they mean
 
 module _ (room : Room) (places : Placement) (step : Step) where
   pub names-fault : (stepCheck room places step ≡ StepCheck.Faulty StepFault.Misnamed) ↔ FaultNames room places step
@@ -229,6 +230,31 @@ module _ (room : Room) (places : Placement) (step : Step) where
       fitted : (f : FaultMate room places step) (b : Bool) → fitting room places step ≡ b → b ≡ true
       fitted f true t = refl
       fitted f false t = absurd (f .fit (misfit-exact room places step (f .well-named) .0 t))
+
+  pub turn-fault : (stepCheck room places step ≡ StepCheck.Faulty StepFault.Early) ↔ FaultTurn room places step
+  turn-fault = (
+    λ e. let t = early-check room places step .0 e in
+        record {
+          well-named = t .well-named;
+          well-sourced = t .well-sourced;
+          permitted = t .permitted;
+          fit = λ x. false≢true (sym (misfit-exact room places step (t .well-named) .1 x) ∙ t .fit);
+          apart = λ x. false≢true (sym (mate-exact room places step (t .well-named) .1 x) ∙ t .apart);
+          early = t .early;
+        },
+    λ f. early-check room places step .1 (record {
+      well-named = f .well-named;
+      well-sourced = f .well-sourced;
+      permitted = f .permitted;
+      fit = never-false (fitting room places step) (λ t. f .fit (misfit-exact room places step (f .well-named) .0 t));
+      apart = never-false (unmet room places step) (λ t. f .apart (mate-exact room places step (f .well-named) .0 t));
+      early = f .early;
+    }),
+  )
+    where
+      never-false : (b : Bool) → (b ≡ false → ⊥) → b ≡ true
+      never-false true h = refl
+      never-false false h = absurd (h refl)
 
 -- the first step at fault, as the checker finds it and as every run has it
 pub first-fault : (room : Room) (places : Placement) (steps : List Step) (n : ℕ) (fault : StepFault) (P : Placement → Step → Type 0) →
@@ -304,6 +330,7 @@ ends-away room places steps l = (runs, found)
       sound = a .sound;
       well-sourced = a .well-sourced;
       obeys = λ last run. run-obeys (a .sound) l run;
+      in-turn = λ last run. run-turn (a .sound) l run;
       away = λ last run. off-some room last (ap (home room) (run-ends (sound-all-named room places steps (a .sound)) l run) ∙ a .missed);
     }
 
@@ -444,6 +471,7 @@ module _ (reserve : ℕ) (cluster plan : List ℕ) where
           let s = accepted-steps (a .0) (a .1) in
           record {
             obeys = λ last run. run-obeys (s .sound) (current-length room) run;
+            in-turn = λ last run. run-turn (s .sound) (current-length room) run;
             ends = λ last run. ap (home room) (run-ends n (current-length room) run) ∙ s .arrived;
           }
 
@@ -452,7 +480,7 @@ module _ (reserve : ℕ) (cluster plan : List ℕ) where
           let r = some-run room places steps in (
             costOf room steps,
             shaped-verdict reserve cluster plan h ∙
-                steps-good room (Verdict.Accepted (costOf room steps)) places 1 steps (runs-sound room places steps n (current-length room) (a .obeys)) x
+                steps-good room (Verdict.Accepted (costOf room steps)) places 1 steps (runs-sound room places steps n (current-length room) (a .obeys) (a .in-turn)) x
                 (sym (ap (home room) (run-ends n (current-length room) (r .1))) ∙ a .ends (r .0) (r .1)),
           )
 

@@ -17,7 +17,8 @@ use std::thread;
 /// A larger room, and an input that is too long, come with every so many generated clusters.
 const CLUSTERS_A_ROOM: usize = 20;
 
-/// From so many inputs on, some must be planned with a launch and some with a shutdown.
+/// From so many inputs on, some must be planned with a launch, some with a shutdown, and some in which a
+/// VM waits for another.
 const ENOUGH: usize = 1_000;
 
 /// Reserves that come in turn. With their higher bits cut off the last four would be taken.
@@ -54,6 +55,7 @@ fn main() {
     };
     let (path, inputs) = (&words.path, inputs(&words));
     let (mut version_2, mut launches, mut shutdowns, mut too_high) = (0, 0, 0, 0);
+    let mut befores = 0;
     for input in &inputs {
         let Input { reserve, cluster } = input;
         let expected = plan_text(read_reserve(reserve).expect("digits"), cluster);
@@ -67,17 +69,19 @@ fn main() {
         launches += moves().filter(|words| words[2] == "255").count();
         shutdowns += moves().filter(|words| words[3] == "255").count();
         too_high += usize::from(expected == "refused 23 step 0\n");
+        let waits = || parse_cluster(cluster).is_ok_and(|room| room.befores().next().is_some());
+        befores += usize::from(moves().next().is_some() && waits());
     }
     println!(
         "{path} printed the model's text on {} inputs, {version_2} of version 2, with {launches} \
-         launches and {shutdowns} shutdowns",
+         launches and {shutdowns} shutdowns; in {befores} that are planned a VM waits for another",
         inputs.len()
     );
     if words.reserves {
         println!("{too_high} of them have a reserve that is too high");
     }
-    if inputs.len() >= ENOUGH && (launches == 0 || shutdowns == 0) {
-        println!("the inputs have no launch or no shutdown");
+    if inputs.len() >= ENOUGH && [launches, shutdowns, befores].contains(&0) {
+        println!("the inputs have no launch, no shutdown, or nobody who waits for another");
         exit(1);
     }
 }

@@ -18,10 +18,10 @@ use Rattle.rules.proofs.tally.Tally.with.Reads as with-reads
 use Rattle.rules.proofs.need_of.Reads as need-of-reads
 
 abbrev Inv-loop : tie.InvT-loop
-Inv-loop reserve cluster allow pairs places n dests₀ sums₀ v₀ dests sums v = (v ≤ n) × Directing reserve cluster places dests v sums
+Inv-loop reserve cluster allow pairs waits places n dests₀ sums₀ v₀ dests sums v = (v ≤ n) × Directing reserve cluster places dests v sums
 
 abbrev μ-loop : tie.MeasureT-loop
-μ-loop reserve cluster allow pairs places n dests₀ sums₀ v₀ dests sums v = n - v
+μ-loop reserve cluster allow pairs waits places n dests₀ sums₀ v₀ dests sums v = n - v
 
 vm-count-requires : tie.Need-vm-count-requires Inv-loop μ-loop
 vm-count-requires c κs = search needs
@@ -47,7 +47,7 @@ array-copy-out-here c = search needs
 goal-requires : tie.Need-goal-requires Inv-loop μ-loop
 goal-requires c κs = let head = c .before .before .before .before .before in
     let pre = head .before .before .before .before .before .pre in
-    (search needs, search needs, search needs, search needs, search needs, directing-light _ _ _ _ _ _ (head .loop .inv .1) (pre .0) (omega arith) _)
+    (search needs, search needs, search needs, search needs, search needs, search needs, directing-light _ _ _ _ _ _ (head .loop .inv .1) (pre .0) (omega arith) _)
 
 wide-requires-2 : tie.Need-wide-requires-2 Inv-loop μ-loop
 wide-requires-2 c κs = search needs

@@ -17,10 +17,10 @@ use Rattle.planner.proofs.pivot.goes_aside.Reads as goes-aside-reads
 use Rattle.records.proofs.node_count.Reads as node-count-reads
 
 abbrev Inv-loop : tie.InvT-loop
-Inv-loop reserve cluster allow pairs places v sums n d₀ d = (d ≤ n) × (pivotNode (roomAt reserve cluster) (held cluster places) v (from d (n - d)) ≡ pivotNode (roomAt reserve cluster) (held cluster places) v (nodesIn (roomAt reserve cluster)))
+Inv-loop reserve cluster allow pairs waits places v sums n d₀ d = (d ≤ n) × (pivotNode (roomAt reserve cluster) (held cluster places) v (from d (n - d)) ≡ pivotNode (roomAt reserve cluster) (held cluster places) v (nodesIn (roomAt reserve cluster)))
 
 abbrev μ-loop : tie.MeasureT-loop
-μ-loop reserve cluster allow pairs places v sums n d₀ d = n - d
+μ-loop reserve cluster allow pairs waits places v sums n d₀ d = n - d
 
 node-count-requires : tie.Need-node-count-requires Inv-loop μ-loop
 node-count-requires c κs = search needs
@@ -37,7 +37,7 @@ array-copy-out-here c = search (needs, sum-index)
 goes-aside-requires : tie.Need-goes-aside-requires Inv-loop μ-loop
 goes-aside-requires c κs =
     let pre = c .before .before .before .before .before .pre in
-    (search needs, search needs, search needs, search needs, search needs, search needs, rested-still _ _ _ _ (pre .4) (pre .0) (omega arith))
+    (search needs, search needs, search needs, search needs, search needs, search needs, search needs, rested-still _ _ _ _ (pre .5) (pre .0) (omega arith))
 
 returns : tie.Need-returns Inv-loop μ-loop
 returns c = search (needs, node-found)

@@ -20,10 +20,10 @@ use Rattle.records.proofs.vm_count.Reads as vm-count-reads
 use Rattle.rules.proofs.loads.Reads as loads-reads
 
 abbrev Inv-loop : tie.InvT-loop
-Inv-loop reserve cluster allow pairs places n nodes dests₀ sums v₀ dests v = (v ≤ n) × (dests ≡ replicate 256 64) × (pivotFirst (roomAt reserve cluster) (held cluster places) (from v (n - v)) ≡ pivotStep (roomAt reserve cluster) (held cluster places))
+Inv-loop reserve cluster allow pairs waits places n nodes dests₀ sums v₀ dests v = (v ≤ n) × (dests ≡ replicate 256 64) × (pivotFirst (roomAt reserve cluster) (held cluster places) (from v (n - v)) ≡ pivotStep (roomAt reserve cluster) (held cluster places))
 
 abbrev μ-loop : tie.MeasureT-loop
-μ-loop reserve cluster allow pairs places n nodes dests₀ sums v₀ dests v = n - v
+μ-loop reserve cluster allow pairs waits places n nodes dests₀ sums v₀ dests v = n - v
 
 vm-count-requires : tie.Need-vm-count-requires Inv-loop μ-loop
 vm-count-requires c κs = search needs

@@ -19,10 +19,10 @@ use Rattle.records.proofs.vm_count.Reads as vm-count-reads
 use Rattle.rules.proofs.loads.Reads as loads-reads
 
 abbrev Inv-loop : tie.InvT-loop
-Inv-loop reserve cluster allow pairs places v p n here u₀ u = (u ≤ n) × (comesTo (roomAt reserve cluster) (held cluster places) v p (from u (n - u)) ≡ comesTo (roomAt reserve cluster) (held cluster places) v p (vmsIn (roomAt reserve cluster)))
+Inv-loop reserve cluster allow pairs waits places v p n here u₀ u = (u ≤ n) × (comesTo (roomAt reserve cluster) (held cluster places) v p (from u (n - u)) ≡ comesTo (roomAt reserve cluster) (held cluster places) v p (vmsIn (roomAt reserve cluster)))
 
 abbrev μ-loop : tie.MeasureT-loop
-μ-loop reserve cluster allow pairs places v p n here u₀ u = n - u
+μ-loop reserve cluster allow pairs waits places v p n here u₀ u = n - u
 
 vm-count-requires : tie.Need-vm-count-requires Inv-loop μ-loop
 vm-count-requires c κs = search needs
@@ -40,7 +40,7 @@ loop-holds : tie.Need-loop-holds Inv-loop μ-loop
 loop-holds c = search (needs, comes-start)
 
 comes-requires : tie.Need-comes-requires Inv-loop μ-loop
-comes-requires c κs = search (needs, rested)
+comes-requires c κs = (search needs, search needs, search needs, search needs, search needs, search needs, search needs, search (needs, rested))
 
 returns : tie.Need-returns Inv-loop μ-loop
 returns c = search (needs, comes-found)

@@ -1,7 +1,7 @@
 use native.Mathlib.Omega.{arith}
 use Rattle.rules.proofs.Laws.Turns.{set-placed}
 use Rattle.planner.proofs.Laws.Joining.{vm-low, node-place}
-use Rattle.planner.proofs.Laws.Lone.{place-there, useful-kept, useful-off, useful-lost, useful-yes, useful-no}
+use Rattle.planner.proofs.Laws.Lone.{place-there, useful-kept, useful-off, useful-lost, useful-waits, useful-yes, useful-no}
 use borrow.Author.Needs.{needs}
 use Rattle.planner.proofs.pivot.useful_node.Statement.{statement}
 use Rattle.planner.proofs.pivot.useful_node.Tie as tie
@@ -45,11 +45,23 @@ array-write-then c = search (needs, vm-low)
 
 some-comes-requires : tie.Need-some-comes-requires
 some-comes-requires c κs = let else3 = c .before in
-    let else2 = else3 .before .before .before in
-    let place = else2 .before .before .before in
-    let start = place .before .before .before .before in
-    let pre = start .pre in
-    (search needs, search needs, search needs, search needs, set-placed _ _ _ _ (pre .4) (node-place _ _ (omega arith)), place-there _ _ _ _ (place .place-at .ensures .0) (pre .0) (pre .4) (else2 .if2 .left))
+    let node = else3 .before in
+    let else2 = node .before .before in
+    let else1 = else2 .before in
+    let target = else1 .before in
+    let place = target .before in
+    let count = place .before .before in
+    let start = count .before .before in
+    let pre = start .pre in (
+      search needs,
+      search needs,
+      search needs,
+      search needs,
+      useful-waits _ _ _ _ _ _ _ (pre .5) (count .node-count .ensures .0) (place .place-at .ensures .0) (target .vm-target .ensures .0) (pre .0) (pre .7) (else1 .if1 .left) (else2 .if2 .left) _ (node .pivot-node .ensures) _
+          (pre .4) (else3 .if3 .left) (start .good .1 .1 .1 .1 .1 .0 .1 .0 .1),
+      set-placed _ _ _ _ (pre .5) (node-place _ _ (omega arith)),
+      place-there _ _ _ _ (place .place-at .ensures .0) (pre .0) (pre .5) (else2 .if2 .left),
+    )
 
 returns-4 : tie.Need-returns-4
 returns-4 c = let came = c .before in
@@ -62,8 +74,8 @@ returns-4 c = let came = c .before in
     let count = place .before .before in
     let start = count .before .before in
     let pre = start .pre in
-    useful-yes _ _ _ _ _ _ _ (pre .4) (count .node-count .ensures .0) (place .place-at .ensures .0) (target .vm-target .ensures .0) (pre .0) (pre .6) (else1 .if1 .left) (else2 .if2 .left) _ (node .pivot-node .ensures) _
-    (came .some-comes .ensures) (pre .7) (wide .if3 .left) (start .good .1 .1 .1 .1 .0 .1 .0 .1) (c .if4 .taken)
+    useful-yes _ _ _ _ _ _ _ (pre .5) (count .node-count .ensures .0) (place .place-at .ensures .0) (target .vm-target .ensures .0) (pre .0) (pre .7) (else1 .if1 .left) (else2 .if2 .left) _ (node .pivot-node .ensures) _
+    (came .some-comes .ensures) (pre .8) (wide .if3 .left) (start .good .1 .1 .1 .1 .1 .0 .1 .0 .1) (c .if4 .taken)
 
 returns-5 : tie.Need-returns-5
 returns-5 c = let came = c .before in
@@ -76,8 +88,8 @@ returns-5 c = let came = c .before in
     let count = place .before .before in
     let start = count .before .before in
     let pre = start .pre in
-    useful-no _ _ _ _ _ _ _ (pre .4) (count .node-count .ensures .0) (place .place-at .ensures .0) (target .vm-target .ensures .0) (pre .0) (pre .6) (else1 .if1 .left) (else2 .if2 .left) _ (node .pivot-node .ensures) _
-    (came .some-comes .ensures) (pre .7) (wide .if3 .left) (start .good .1 .1 .1 .1 .0 .1 .0 .1) (c .if4 .left)
+    useful-no _ _ _ _ _ _ _ (pre .5) (count .node-count .ensures .0) (place .place-at .ensures .0) (target .vm-target .ensures .0) (pre .0) (pre .7) (else1 .if1 .left) (else2 .if2 .left) _ (node .pivot-node .ensures) _
+    (came .some-comes .ensures) (pre .8) (wide .if3 .left) (start .good .1 .1 .1 .1 .1 .0 .1 .0 .1) (c .if4 .left)
 
 pub useful-node-spec : {M : Type 1} → statement M
 useful-node-spec =

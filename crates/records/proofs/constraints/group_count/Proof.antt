@@ -1,4 +1,4 @@
-use Rattle.records.proofs.Laws.Constraints.{groups-byte, groups-count}
+use Rattle.records.proofs.Laws.Constraints.{groups-listed, groups-byte, groups-count}
 use borrow.Author.Needs.{needs}
 use Rattle.records.proofs.constraints.group_count.Statement.{statement}
 use Rattle.records.proofs.constraints.group_count.Tie as tie
@@ -8,7 +8,7 @@ use Rattle.records.proofs.bytes.count8.Reads as count8-reads
 use Rattle.records.proofs.constraints.others_at.Reads as others-at-reads
 
 others-at-requires : tie.Need-others-at-requires
-others-at-requires c κs = search needs
+others-at-requires c κs = search (needs, groups-listed)
 
 count8-requires : tie.Need-count8-requires
 count8-requires c κs = search (needs, groups-byte)

@@ -1,4 +1,4 @@
-use Rattle.records.proofs.Laws.Constraints.{others-within, nodes-start, nodes-part, nodes-none}
+use Rattle.records.proofs.Laws.Constraints.{kind-within, nodes-start, nodes-part, nodes-none}
 use native.Mathlib.Omega.{arith}
 use borrow.Author.Needs.{needs}
 use Rattle.records.proofs.constraints.named_nodes.Statement.{statement}
@@ -9,7 +9,7 @@ use Rattle.records.proofs.bytes.byte.Reads as byte-reads
 use Rattle.records.proofs.constraints.others_at.Reads as others-at-reads
 
 byte-requires : tie.Need-byte-requires
-byte-requires c κs = omega (arith, others-within)
+byte-requires c κs = omega (arith, kind-within)
 
 others-at-requires : tie.Need-others-at-requires
 others-at-requires c κs = search needs

@@ -1,4 +1,5 @@
-use Rattle.rules.proofs.Laws.Allow.{below-same, apply-ban, apply-fence, apply-spread, apply-latency}
+use Rattle.rules.proofs.Laws.Allow.{below-same, apply-ban, apply-fence, apply-spread, apply-latency, apply-before}
+use borrow.Author.Needs.{needs}
 use borrow.Author.Needs.{needs}
 use Rattle.rules.proofs.allow.apply.Statement.{statement}
 use Rattle.rules.proofs.allow.apply.Tie as tie
@@ -49,6 +50,9 @@ enum-told-3 c = search needs
 enum-told-4 : tie.Need-enum-told-4
 enum-told-4 c = search needs
 
+enum-told-5 : tie.Need-enum-told-5
+enum-told-5 c = search needs
+
 returns : tie.Need-returns
 returns c = search (needs, apply-ban)
 
@@ -60,6 +64,9 @@ returns-3 c = search (needs, apply-spread)
 
 returns-4 : tie.Need-returns-4
 returns-4 c = search (needs, apply-latency)
+
+returns-5 : tie.Need-returns-5
+returns-5 c = search (needs, apply-before)
 
 pub apply-spec : {M : Type 1} → statement M
 apply-spec =
@@ -78,7 +85,9 @@ apply-spec =
     keep-rows-requires-2
     enum-told-3
     enum-told-4
+    enum-told-5
     returns
     returns-2
     returns-3
-    returns-4)
+    returns-4
+    returns-5)

@@ -1,4 +1,5 @@
-use Rattle.rules.proofs.Laws.Mates.{part-spread, part-ban, part-fence, part-latency}
+use Rattle.rules.proofs.Laws.Mates.{part-spread, part-ban, part-fence, part-latency, part-before}
+use borrow.Author.Needs.{needs}
 use borrow.Author.Needs.{needs}
 use Rattle.rules.proofs.spread.part_unmet.Statement.{statement}
 use Rattle.rules.proofs.spread.part_unmet.Tie as tie
@@ -29,6 +30,9 @@ enum-told-3 c = search needs
 enum-told-4 : tie.Need-enum-told-4
 enum-told-4 c = search needs
 
+enum-told-5 : tie.Need-enum-told-5
+enum-told-5 c = search needs
+
 returns : tie.Need-returns
 returns c = search (needs, part-spread)
 
@@ -41,6 +45,9 @@ returns-3 c = search (needs, part-fence)
 returns-4 : tie.Need-returns-4
 returns-4 c = search (needs, part-latency)
 
+returns-5 : tie.Need-returns-5
+returns-5 c = search (needs, part-before)
+
 pub part-unmet-spec : {M : Type 1} → statement M
 part-unmet-spec =
     tie.close
@@ -52,7 +59,9 @@ part-unmet-spec =
     enum-told-2
     enum-told-3
     enum-told-4
+    enum-told-5
     returns
     returns-2
     returns-3
-    returns-4)
+    returns-4
+    returns-5)

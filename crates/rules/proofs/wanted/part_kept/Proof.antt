@@ -1,5 +1,6 @@
 use Rattle.rules.proofs.Laws.Allow.{below-same}
-use Rattle.rules.proofs.Laws.Targets.{kept-ban, kept-fence, kept-spread, kept-down, kept-groups, kind-latency}
+use Rattle.rules.proofs.Laws.Targets.{kept-ban, kept-fence, kept-spread, kept-down, kept-groups, kept-before, kind-latency}
+use borrow.Author.Needs.{needs}
 use borrow.Author.Needs.{needs}
 use Rattle.rules.proofs.wanted.part_kept.Statement.{statement}
 use Rattle.rules.proofs.wanted.part_kept.Tie as tie
@@ -61,6 +62,9 @@ returns c = search (needs, kept-down)
 groups-hold-requires : tie.Need-groups-hold-requires
 groups-hold-requires c κs = search (needs, kind-latency)
 
+enum-told-5 : tie.Need-enum-told-5
+enum-told-5 c = search needs
+
 returns-2 : tie.Need-returns-2
 returns-2 c = search (needs, kept-ban)
 
@@ -72,6 +76,9 @@ returns-4 c = search (needs, kept-spread)
 
 returns-5 : tie.Need-returns-5
 returns-5 c = search (needs, kept-groups)
+
+returns-6 : tie.Need-returns-6
+returns-6 c = search (needs, kept-before)
 
 pub part-kept-spec : {M : Type 1} → statement M
 part-kept-spec =
@@ -93,7 +100,9 @@ part-kept-spec =
     list-clear-requires-3
     returns
     groups-hold-requires
+    enum-told-5
     returns-2
     returns-3
     returns-4
-    returns-5)
+    returns-5
+    returns-6)
