@@ -1,6 +1,8 @@
-/* A small agent: plans for a cluster, has the plan checked, and writes it.
+/* A small agent: plans for a cluster, has the plan checked, and writes it; and writes the cluster anew when a plan
+ * was stopped.
  *
  *     agent [--keep-blocked] [--reserve PERCENT] CLUSTER PLAN-OUT
+ *     agent --stop STEP MARKS [--reserve PERCENT] CLUSTER PLAN CLUSTER-OUT
  *
  * CLUSTER is a file with a cluster record. PLAN-OUT gets the plan record, if there is a plan; with
  * --keep-blocked also the steps made before the planner was blocked. PERCENT, decimal digits, is kept free on
@@ -11,12 +13,19 @@
  * A line says what came of it. Behind it stands a line for each move made: step, VM, source, destination. 255
  * is no node: the source of a launch, the destination of a shutdown.
  *
+ * With --stop: PLAN is a file with the plan record that was under way, and STEP, decimal digits, the step that it
+ * was stopped in, from 1. MARKS is a word with a digit for each move of that step, in the plan's order: 1 if the
+ * move ended, 0 if it had not begun or was called back. CLUSTER-OUT gets the cluster record with each VM where it
+ * then is. PERCENT is the reserve that the plan was made at, and the planner must take that record at it before it
+ * is written; plan anew from CLUSTER-OUT. A line says what came of it.
+ *
  * Exit status:
- *   0  a plan was made and written
+ *   0  a plan was made and written; the cluster record was written
  *   1  blocked: the planner found no next step (this does not say that no plan exists)
- *   2  refused: the reserve is too high, the cluster record is damaged, or its target cannot be
+ *   2  refused: the reserve is too high, the cluster record is damaged, or its target cannot be; of a stop also
+ *      for what is wrong with the plan, the step or the marks
  *   3  wrong use, or a file that cannot be read or written
- *   5  planner and checker disagree: a fault of the library; nothing is written
+ *   5  the library's calls disagree: a fault of the library; nothing is written
  */
 #include <errno.h>
 #include <inttypes.h>
@@ -25,19 +34,23 @@
 
 #include <kobdrieft.h>
 
-enum status { PLANNED = 0, BLOCKED = 1, REFUSED = 2, USE_OR_FILE = 3, DISAGREE = 5 };
+enum status { PLANNED = 0, STOPPED = 0, BLOCKED = 1, REFUSED = 2, USE_OR_FILE = 3, DISAGREE = 5 };
 
-/* One byte more than a record may have, so that a longer file gets the library's own number. */
+/* One more than a record's bytes and a step's moves may be, so that what is longer gets the library's number. */
 #define LENT_MOST (KOB_MAX_CLUSTER_BYTES + 1)
+#define MARKS_MOST (KOB_MAX_STEP_MOVES + 1)
 
 struct options {
-    const char *cluster;
-    const char *plan;
+    const char *files[3]; /* CLUSTER and PLAN-OUT, or CLUSTER, PLAN and CLUSTER-OUT */
     uint64_t reserve;
     int keep_blocked;
+    int stop;
+    uint64_t step;
+    uint8_t marks[MARKS_MOST];
+    size_t marks_len;
 };
 
-struct cluster {
+struct record {
     uint8_t bytes[LENT_MOST];
     size_t len;
 };
@@ -51,46 +64,71 @@ struct built {
 
 static int usage(void)
 {
-    fprintf(stderr, "usage: agent [--keep-blocked] [--reserve PERCENT] CLUSTER PLAN-OUT\n");
+    fprintf(stderr, "usage: agent [--keep-blocked] [--reserve PERCENT] CLUSTER PLAN-OUT\n"
+                    "       agent --stop STEP MARKS [--reserve PERCENT] CLUSTER PLAN CLUSTER-OUT\n");
     return USE_OR_FILE;
 }
 
-/* Whether a text is decimal digits and nothing else; then the number is set. One that 64 bits do not hold
- * becomes the largest that they do, which is too high like itself. */
-static int parse_percent(const char *text, uint64_t *number)
+/* Whether a text is decimal digits and nothing else. */
+static int digits(const char *text)
 {
-    if (*text == '\0')
-        return 0;
-    *number = 0;
+    return *text != '\0' && text[strspn(text, "0123456789")] == '\0';
+}
+
+/* The number in decimal digits. One that 64 bits do not hold becomes the largest that they do, which is no reserve
+ * and no step either. */
+static uint64_t number_in(const char *text)
+{
+    uint64_t number = 0;
     for (; *text != '\0'; text++) {
-        if (*text < '0' || *text > '9')
-            return 0;
         uint64_t digit = (uint64_t)(*text - '0');
-        *number = *number <= (UINT64_MAX - digit) / 10 ? *number * 10 + digit : UINT64_MAX;
+        number = number <= (UINT64_MAX - digit) / 10 ? number * 10 + digit : UINT64_MAX;
     }
+    return number;
+}
+
+/* Sets the marks: the digits of a word. */
+static void set_marks(struct options *options, const char *word)
+{
+    for (; *word != '\0' && options->marks_len < MARKS_MOST; word++)
+        options->marks[options->marks_len++] = (uint8_t)(*word - '0');
+}
+
+/* Whether the words behind --stop are right; then step and marks are set. */
+static int parse_stop(struct options *options, const char *step, const char *marks)
+{
+    if (options->stop || !digits(step) || !digits(marks))
+        return 0;
+    options->stop = 1;
+    options->step = number_in(step);
+    set_marks(options, marks);
     return 1;
 }
 
 /* Whether the arguments are right; then the options are set. */
 static int parse(int argc, char **argv, struct options *options)
 {
-    const char *files[2] = {NULL, NULL};
     const char *percent = NULL;
     int count = 0;
-    options->keep_blocked = 0;
+    memset(options, 0, sizeof *options);
     for (int i = 1; i < argc; i++) {
         if (strcmp(argv[i], "--keep-blocked") == 0)
             options->keep_blocked = 1;
         else if (strcmp(argv[i], "--reserve") == 0 && percent == NULL && i + 1 < argc)
             percent = argv[++i];
-        else if (strncmp(argv[i], "--", 2) == 0 || count == 2)
+        else if (strcmp(argv[i], "--stop") == 0 && i + 2 < argc && parse_stop(options, argv[i + 1], argv[i + 2]))
+            i += 2;
+        else if (strncmp(argv[i], "--", 2) == 0 || count == 3)
             return 0;
         else
-            files[count++] = argv[i];
+            options->files[count++] = argv[i];
     }
-    options->cluster = files[0];
-    options->plan = files[1];
-    return count == 2 && parse_percent(percent == NULL ? "0" : percent, &options->reserve);
+    if (percent == NULL)
+        percent = "0";
+    if (!digits(percent) || count != (options->stop ? 3 : 2) || (options->stop && options->keep_blocked))
+        return 0;
+    options->reserve = number_in(percent);
+    return 1;
 }
 
 static int file_fault(const char *verb, const char *path, int error)
@@ -100,26 +138,26 @@ static int file_fault(const char *verb, const char *path, int error)
 }
 
 /* Reads a file to its end, or to one byte past the longest record. */
-static int read_cluster(const char *path, struct cluster *cluster)
+static int read_record(const char *path, struct record *record)
 {
     FILE *file = fopen(path, "rb");
     if (file == NULL)
         return file_fault("read", path, errno);
     errno = 0;
-    cluster->len = fread(cluster->bytes, 1, sizeof cluster->bytes, file);
+    record->len = fread(record->bytes, 1, sizeof record->bytes, file);
     int whole = !ferror(file);
     int error = errno;
     fclose(file);
     return whole ? 1 : file_fault("read", path, error);
 }
 
-static int write_plan(const char *path, const struct built *built)
+static int write_record(const char *path, const uint8_t *bytes, size_t len)
 {
     FILE *file = fopen(path, "wb");
     if (file == NULL)
         return file_fault("write", path, errno);
     errno = 0;
-    int whole = fwrite(built->bytes, 1, built->len, file) == built->len;
+    int whole = fwrite(bytes, 1, len, file) == len;
     int error = errno;
     if (fclose(file) != 0 && whole) {
         whole = 0;
@@ -128,8 +166,10 @@ static int write_plan(const char *path, const struct built *built)
     return whole ? 1 : file_fault("write", path, error);
 }
 
+/* ---- planning */
+
 /* Plans. A refusal leaves no record, so its length is 0. */
-static void plan_for(uint64_t reserve, const struct cluster *cluster, struct built *built)
+static void plan_for(uint64_t reserve, const struct record *cluster, struct built *built)
 {
     built->result = kob_build(reserve, cluster->bytes, cluster->len, built->bytes, sizeof built->bytes);
     built->len = kob_outcome_of(built->result) == KOB_REFUSED ? 0 : kob_plan_length(built->bytes);
@@ -146,7 +186,7 @@ static int readable(const struct built *built)
 }
 
 /* Whether the checker says of what was built what it must. */
-static int agrees(uint64_t reserve, const struct cluster *cluster, const struct built *built)
+static int agrees(uint64_t reserve, const struct record *cluster, const struct built *built)
 {
     if (!readable(built))
         return 0;
@@ -182,57 +222,131 @@ static void print_moves(const struct built *built)
 
 static int end_planned(const struct options *options, const struct built *built)
 {
-    if (!write_plan(options->plan, built))
+    const char *path = options->files[1];
+    if (!write_record(path, built->bytes, built->len))
         return USE_OR_FILE;
     printf("agent: plan: ");
     print_made(built->result);
-    printf("; written to %s\n", options->plan);
+    printf("; written to %s\n", path);
     print_moves(built);
     return PLANNED;
 }
 
 static int end_blocked(const struct options *options, const struct built *built)
 {
-    if (options->keep_blocked && !write_plan(options->plan, built))
+    const char *path = options->files[1];
+    if (options->keep_blocked && !write_record(path, built->bytes, built->len))
         return USE_OR_FILE;
     printf("agent: blocked: ");
     print_made(built->result);
     if (options->keep_blocked)
-        printf("; these steps written to %s\n", options->plan);
+        printf("; these steps written to %s\n", path);
     else
         printf("; nothing written\n");
     print_moves(built);
     return BLOCKED;
 }
 
-static int end_refused(const struct built *built)
+/* The step is told if there is one. */
+static int end_refused(uint64_t result)
 {
-    unsigned number = kob_refusal_number(built->result);
-    printf("agent: refused, number %u; nothing written. %s\n", number, kob_fault_text(number));
+    unsigned number = kob_refusal_number(result), step = kob_refusal_step(result);
+    printf("agent: refused, number %u", number);
+    if (step != 0)
+        printf(", step %u", step);
+    printf("; nothing written. %s\n", kob_fault_text(number));
     return REFUSED;
 }
 
-static int end_disagree(const struct built *built)
+static int end_disagree(const char *who, uint64_t result)
 {
-    fprintf(stderr, "agent: planner and checker disagree (result %016" PRIx64 "); nothing written\n",
-            built->result);
+    fprintf(stderr, "agent: %s disagree (result %016" PRIx64 "); nothing written\n", who, result);
     return DISAGREE;
 }
 
 /* Writes and says what was built. */
-static int end(const struct options *options, const struct cluster *cluster, const struct built *built)
+static int end(const struct options *options, const struct record *cluster, const struct built *built)
 {
     if (!agrees(options->reserve, cluster, built))
-        return end_disagree(built);
+        return end_disagree("planner and checker", built->result);
     switch (kob_outcome_of(built->result)) {
     case KOB_PLAN:
         return end_planned(options, built);
     case KOB_BLOCKED:
         return end_blocked(options, built);
     default:
-        return end_refused(built);
+        return end_refused(built->result);
     }
 }
+
+static int make_plan(const struct options *options, const struct record *cluster)
+{
+    static struct built built;
+    plan_for(options->reserve, cluster, &built);
+    return end(options, cluster, &built);
+}
+
+/* ---- stopping */
+
+/* Whether the planner takes a cluster record. */
+static int planned_for(uint64_t reserve, const struct record *cluster)
+{
+    static struct built built;
+    plan_for(reserve, cluster, &built);
+    return kob_outcome_of(built.result) != KOB_REFUSED;
+}
+
+/* Whether checker and planner say what they must of a stop: the one of the plan, the other of the record written. */
+static int stop_agrees(uint64_t reserve, const struct record *cluster, const struct record *plan, uint64_t result,
+                       const struct record *left)
+{
+    uint64_t verdict = kob_check(reserve, cluster->bytes, cluster->len, plan->bytes, plan->len);
+    int accepted = kob_outcome_of(verdict) == KOB_ACCEPTED;
+    switch (kob_refusal_number(result)) {
+    case 0:
+        return accepted && result == cluster->len && planned_for(reserve, left);
+    case KOB_FAULT_NO_STEP:
+    case KOB_FAULT_MARK:
+        return accepted;
+    case KOB_FAULT_BUFFER_SHORT:
+    case KOB_FAULT_STOP_BUFFER: /* it is not */
+        return 0;
+    default: /* what is wrong with reserve, cluster and plan is found by both */
+        return verdict == result;
+    }
+}
+
+static unsigned ended(const struct options *options)
+{
+    unsigned count = 0;
+    for (size_t i = 0; i < options->marks_len; i++)
+        count += options->marks[i] == KOB_MARK_ENDED;
+    return count;
+}
+
+static int end_stopped(const struct options *options, const struct record *left)
+{
+    const char *path = options->files[2];
+    if (!write_record(path, left->bytes, left->len))
+        return USE_OR_FILE;
+    printf("agent: stopped: step %" PRIu64 ", %u of %zu moves ended; written to %s\n", options->step, ended(options),
+           options->marks_len, path);
+    return STOPPED;
+}
+
+/* Writes and says what a stop left. */
+static int make_stop(const struct options *options, const struct record *cluster, const struct record *plan)
+{
+    static struct record left;
+    uint64_t result = kob_stop(options->reserve, cluster->bytes, cluster->len, plan->bytes, plan->len, options->step,
+                               options->marks, options->marks_len, left.bytes, sizeof left.bytes);
+    left.len = kob_length(result) <= sizeof left.bytes ? kob_length(result) : 0;
+    if (!stop_agrees(options->reserve, cluster, plan, result, &left))
+        return end_disagree("stop, checker and planner", result);
+    return kob_outcome_of(result) == KOB_REFUSED ? end_refused(result) : end_stopped(options, &left);
+}
+
+/* ---- */
 
 /* The status, unless what was printed got lost. */
 static int printed(int status)
@@ -246,13 +360,15 @@ static int printed(int status)
 
 int main(int argc, char **argv)
 {
-    static struct cluster cluster;
-    static struct built built;
-    struct options options;
+    static struct record cluster, under_way;
+    static struct options options;
     if (!parse(argc, argv, &options))
         return usage();
-    if (!read_cluster(options.cluster, &cluster))
+    if (!read_record(options.files[0], &cluster))
         return USE_OR_FILE;
-    plan_for(options.reserve, &cluster, &built);
-    return printed(end(&options, &cluster, &built));
+    if (!options.stop)
+        return printed(make_plan(&options, &cluster));
+    if (!read_record(options.files[1], &under_way))
+        return USE_OR_FILE;
+    return printed(make_stop(&options, &cluster, &under_way));
 }

@@ -1,8 +1,8 @@
-/* Kobdrieft: plans VM migrations in a small cluster, and checks such plans.
+/* Kobdrieft: plans VM migrations in a small cluster, checks such plans, and says where a stopped one leaves it.
  *
- * Two calls, both in libkobdrieft.a: `kobdrieft_build` makes a plan, `kobdrieft_check` gives the verdict on
- * one. Both take any reserve and any bytes whatever, and return one number; the functions below take it apart,
- * and read the plan.
+ * Three calls, all in libkobdrieft.a: `kobdrieft_build` makes a plan, `kobdrieft_check` gives the verdict on
+ * one, and `kobdrieft_stop` writes the cluster record anew when one was stopped in the middle. Each takes any
+ * reserve and any bytes whatever, and returns one number; the functions below take it apart, and read the plan.
  *
  * Reserve. The percent that is kept free on each node, 0 to KOB_MAX_RESERVE; every other number of 64 bits is
  * refused with 23, whatever else is wrong. A node's usable memory and usable CPU are each its capacity *
@@ -16,16 +16,26 @@
  * target and must not move the first; else it is refused with 33. No target is refused for it. If VMs out of
  * place wait for one another, `kobdrieft_build` is blocked.
  *
+ * Stopping. A plan may be stopped at any moment of any step. Begin no more moves, and wait until none is under
+ * way: each ends, or is called back, its VM staying where it was. Then mark each move of that step, in the
+ * plan's order: KOB_MARK_ENDED if it ended, so that its VM is on its destination; KOB_MARK_STAYED if it had not
+ * begun or was called back, so that its VM is where it was when the step started. `kobdrieft_stop` writes the
+ * cluster record with the current nodes that this leaves, its target and all else as they were; then build again
+ * from that record. At the same reserve it has none of the faults 23 and 1 to 9, so it is planned for, or
+ * blocked. A node that was within its usable memory before the plan is within it there, and so for CPU; spread
+ * mates that were apart are apart.
+ *
  * Pointers. The caller guarantees that each pointer is not NULL and readable for its length, `out` also
- * writable; that `out` overlaps nothing of `cluster`; and that nobody else writes to what is lent, or reads
- * `out`, during the call. The two records lent to `kobdrieft_check` are only read and may overlap. A length of 0
- * needs a pointer too: use kob_check and kob_build, which take any pointer then, NULL included.
+ * writable; that `out` overlaps nothing of `cluster`, `plan` and `marks`; and that nobody else writes to what is
+ * lent, or reads `out`, during the call. All but `out` is only read, and may overlap. A length of 0 needs a
+ * pointer too: use kob_check, kob_build and kob_stop, which take any pointer then, NULL included.
  *
  * Threads. There is no state: any number of threads may call at once, each with an `out` of its own.
  *
- * Stack. Measured on full clusters, x86-64: `kobdrieft_check` takes 34,575 bytes (512 steps), `kobdrieft_build`
- * 122,559 (1 step) and 122,471 (500 steps): it does not grow with the steps. Give a thread KOB_CHECK_STACK or
- * KOB_BUILD_STACK, and what it needs itself.
+ * Stack. Measured on full clusters, x86-64: `kobdrieft_check` takes 34,575 bytes (512 steps), `kobdrieft_stop`
+ * 34,655 (stopped in step 1, and in step 512), `kobdrieft_build` 122,559 (1 step) and 122,471 (500 steps): it does
+ * not grow with the steps. Give a thread KOB_CHECK_STACK, KOB_STOP_STACK or KOB_BUILD_STACK, and what it needs
+ * itself.
  *
  * No call allocates, does I/O, or calls anything but memcpy, memmove, memset and memcmp.
  */
@@ -36,12 +46,13 @@
 #include <stdint.h>
 
 /* Grows whenever this interface changes, or what its calls answer. */
-#define KOBDRIEFT_VERSION 7
+#define KOBDRIEFT_VERSION 8
 
-/* The two names as they are in the archive. They carry the version, so a program compiled with the header of
+/* The three names as they are in the archive. They carry the version, so a program compiled with the header of
  * another version does not link. */
-#define kobdrieft_check kobdrieft_check_v7
-#define kobdrieft_build kobdrieft_build_v7
+#define kobdrieft_check kobdrieft_check_v8
+#define kobdrieft_build kobdrieft_build_v8
+#define kobdrieft_stop kobdrieft_stop_v8
 
 #ifdef __cplusplus
 extern "C" {
@@ -57,6 +68,16 @@ uint64_t kobdrieft_check(uint64_t reserve, const uint8_t *cluster, size_t cluste
  * of `out`, of version 2, and the bytes behind it are as they were; a refusal changes no byte. */
 uint64_t kobdrieft_build(uint64_t reserve, const uint8_t *cluster, size_t cluster_len, uint8_t *out,
                          size_t out_len);
+
+/* Writes the cluster record as a plan leaves it that was stopped in a step, counted from 1. `marks` has one byte
+ * for each move of that step, KOB_MARK_STAYED or KOB_MARK_ENDED. What `kobdrieft_check` refuses is refused alike,
+ * before step, marks and `out` are looked at. Else the cluster record stands at the front of `out`, where each
+ * VM's current node is the one that it was on when the step started or, if the step moves it and the move is
+ * marked as ended, the destination. Every other byte of the record is as it was, and so are the bytes behind it;
+ * a refusal changes no byte. */
+uint64_t kobdrieft_stop(uint64_t reserve, const uint8_t *cluster, size_t cluster_len, const uint8_t *plan,
+                        size_t plan_len, uint64_t step, const uint8_t *marks, size_t marks_len, uint8_t *out,
+                        size_t out_len);
 
 #ifdef __cplusplus
 }
@@ -78,6 +99,7 @@ uint64_t kobdrieft_build(uint64_t reserve, const uint8_t *cluster, size_t cluste
 
 #define KOB_CHECK_STACK (40 * 1024)  /* `kobdrieft_check` takes less than this */
 #define KOB_BUILD_STACK (128 * 1024) /* `kobdrieft_build` takes less than this */
+#define KOB_STOP_STACK (40 * 1024)   /* `kobdrieft_stop` takes less than this */
 
 /* ---- places */
 
@@ -86,13 +108,21 @@ uint64_t kobdrieft_build(uint64_t reserve, const uint8_t *cluster, size_t cluste
  * node has this number. */
 #define KOB_NOWHERE 255
 
+/* ---- marks */
+
+/* What became of a move of the step that a plan was stopped in. One that still runs has no mark: let it end, or
+ * call it back. */
+#define KOB_MARK_STAYED 0 /* not begun, or called back: the VM is on its source */
+#define KOB_MARK_ENDED 1  /* the VM is on its destination */
+
 /* ---- what a result says */
 
 typedef enum {
     KOB_ACCEPTED = 0, /* kobdrieft_check: the plan is good */
     KOB_PLAN = 0,     /* kobdrieft_build: the plan brings every VM to its target */
+    KOB_STOPPED = 0,  /* kobdrieft_stop: the cluster record is written */
     KOB_BLOCKED = 1,  /* kobdrieft_build: the steps made are sound, but the planner found no next one */
-    KOB_REFUSED = 2   /* both: see the number */
+    KOB_REFUSED = 2   /* all three: see the number */
 } kob_outcome;
 
 static inline kob_outcome kob_outcome_of(uint64_t result)
@@ -100,7 +130,7 @@ static inline kob_outcome kob_outcome_of(uint64_t result)
     return (kob_outcome)(result >> 62);
 }
 
-/* A refusal's number, 1 to 19, 23, 27 or 33; 0 if the result is no refusal. */
+/* A refusal's number, 1 to 23, 27 or 33; 0 if the result is no refusal. */
 static inline unsigned kob_refusal_number(uint64_t result)
 {
     return kob_outcome_of(result) == KOB_REFUSED ? (unsigned)(result >> 16 & 0xff) : 0;
@@ -130,10 +160,17 @@ static inline uint64_t kob_cost(uint64_t result)
     return kob_outcome_of(result) == KOB_REFUSED ? 0 : result & (((uint64_t)1 << 44) - 1);
 }
 
+/* The length of the cluster record that a stop wrote, that of the one lent; 0 if refused. Of `kobdrieft_stop`
+ * only. */
+static inline size_t kob_length(uint64_t result)
+{
+    return kob_outcome_of(result) == KOB_REFUSED ? 0 : (size_t)(result & (((uint64_t)1 << 44) - 1));
+}
+
 /* ---- the refusals, in checking order */
 
 typedef enum {
-    KOB_FAULT_RESERVE = 23, /* those from here to 9: both calls */
+    KOB_FAULT_RESERVE = 23, /* those from here to 9: all calls */
     KOB_FAULT_CLUSTER_SHORT = 1,
     KOB_FAULT_CLUSTER_VERSION = 2,
     KOB_FAULT_CLUSTER_LENGTH = 3,
@@ -143,7 +180,7 @@ typedef enum {
     KOB_FAULT_CONSTRAINT = 7,
     KOB_FAULT_TARGET_OVERFULL = 8,
     KOB_FAULT_TARGET_BROKEN = 9,
-    KOB_FAULT_BUFFER_SHORT = 10, /* kobdrieft_build only; those below: kobdrieft_check only */
+    KOB_FAULT_BUFFER_SHORT = 10, /* kobdrieft_build only; those below: kobdrieft_check and kobdrieft_stop */
     KOB_FAULT_PLAN_SHORT = 11,
     KOB_FAULT_PLAN_VERSION = 12,
     KOB_FAULT_PLAN_LENGTH = 13,
@@ -154,7 +191,10 @@ typedef enum {
     KOB_FAULT_MISFIT = 17,
     KOB_FAULT_MATE = 18,
     KOB_FAULT_BEFORE = 33, /* of a cluster with a `before` constraint only; tested between 18 and 19 */
-    KOB_FAULT_OFF_TARGET = 19
+    KOB_FAULT_OFF_TARGET = 19,
+    KOB_FAULT_NO_STEP = 20, /* or another number of marks; those from here on: kobdrieft_stop only */
+    KOB_FAULT_MARK = 21,
+    KOB_FAULT_STOP_BUFFER = 22 /* `out` is shorter than the cluster record */
 } kob_fault;
 
 /* What a refusal's number means, as docs/REFUSALS.md has it, in one line; never NULL. */
@@ -197,6 +237,16 @@ static inline uint64_t kob_build(uint64_t reserve, const uint8_t *cluster, size_
                            out_len);
 }
 
+/* `kobdrieft_stop`, but with a length of 0 its pointer is not looked at and may be NULL. */
+static inline uint64_t kob_stop(uint64_t reserve, const uint8_t *cluster, size_t cluster_len,
+                                const uint8_t *plan, size_t plan_len, uint64_t step, const uint8_t *marks,
+                                size_t marks_len, uint8_t *out, size_t out_len)
+{
+    return kobdrieft_stop(reserve, kob_lent(cluster, cluster_len), cluster_len, kob_lent(plan, plan_len),
+                          plan_len, step, kob_lent(marks, marks_len), marks_len, kob_lent_out(out, out_len),
+                          out_len);
+}
+
 /* ---- numbers in records */
 
 /* The number in so many bytes, at most 4, big-endian. */
@@ -216,9 +266,9 @@ static inline size_t kob_plan_length(const uint8_t *record)
     return kob_number(record + 1, 4);
 }
 
-/* The node that a VM is on at the start, or KOB_NOWHERE, from a cluster record with none of the faults 1 to 7.
- * Returns 0, and sets nothing, if the record has no such VM. Of other bytes it may give any number or none, but
- * it never reads outside them. */
+/* The node that a VM is on at the start, or KOB_NOWHERE, from a cluster record with none of the faults 1 to 7,
+ * such as a stop writes. Returns 0, and sets nothing, if the record has no such VM. Of other bytes it may give
+ * any number or none, but it never reads outside them. */
 static inline int kob_vm_current(const uint8_t *cluster, size_t cluster_len, unsigned vm, unsigned *node)
 {
     const size_t header = 11, node_row = 5, vm_row = 7, current = 5;

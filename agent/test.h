@@ -65,13 +65,31 @@ void finish(struct record *record);
 /* Makes a record of these bytes. */
 void set(struct record *record, const uint8_t *bytes, size_t len);
 
-/* What both calls give, and whether they leave the records as they were, and of a refusal the buffer. */
+/* A place in one character: a digit, or '-' for no node. */
+uint32_t place(char character);
+
+/* Three nodes of memory 10 and CPU 100, and VMs of memory 3, 2 and 1 and CPU 10. `vms` has a VM's current and
+ * target place in two characters, and a space before the next VM. It is of version 2 if a VM is on no node. */
+void put_text_room(struct record *cluster, const char *vms);
+
+/* A plan of a version. A move has three characters: VM, source, destination. '+' stands between moves of one step,
+ * a space between steps. */
+void put_text_plan(struct record *plan, uint32_t version, const char *steps);
+
+/* A cluster with this fault, 1 to 9; any other number gives A. */
+void put_cluster_fault(struct record *cluster, unsigned number);
+
+/* A cluster and a plan with this fault, 11 to 19, 27 or 33; any other number gives A and its plan. */
+void put_plan_fault(struct record *cluster, struct record *plan, unsigned number);
+
+/* What checking and building give, and whether all calls leave the records as they were, and of a refusal the
+ * buffer; a stop in step 0 must be refused as the check is, or with 20. */
 struct answers {
     uint64_t verdict, built;
-    int kept;
+    int right;
 };
 
-/* Asks both at a reserve; all is lent in allocations of just its size. */
+/* Asks all at a reserve; all is lent in allocations of just its size. */
 struct answers ask(uint64_t reserve, const struct record *cluster, const struct record *plan, size_t out_len);
 
 /* The next number of a fixed series. */

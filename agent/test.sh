@@ -15,10 +15,12 @@ examples=$here/../examples
 work=$(mktemp -d)
 trap 'rm -rf "$work"' EXIT
 
-# The interface's version, and the two names that carry it.
-version=7
+# The interface's version, and the three names that carry it.
+version=8
 check=kobdrieft_check_v$version
 build=kobdrieft_build_v$version
+stop=kobdrieft_stop_v$version
+three=$build$'\n'$check$'\n'$stop
 
 cc=${CC:-cc}
 cxx=${CXX:-c++}
@@ -84,8 +86,8 @@ names() {
   nm -g --defined-only "$1" | awk 'NF == 3 { print $3 }' | sort
 }
 
-exports_two() {
-  [ "$(names "$archive")" = "$build"$'\n'"$check" ]
+exports_three() {
+  [ "$(names "$archive")" = "$three" ]
 }
 
 # No byte that can be written, so no state.
@@ -93,11 +95,12 @@ no_data() {
   size "$archive" | awk 'NR > 1 && $2 + $3 > 0 { bad = 1 } END { exit bad }'
 }
 
-# takes_only NAME OTHER: whether a program that calls one of the two does not get the other too.
+# takes_only NAME: whether a program that calls one of the three does not get the others too.
 takes_only() {
   echo "void $1(void); int main(void) { $1(); }" >"$work/one.c"
   "$cc" "$work/one.c" "${link[@]}" "$link_strict" -o "$work/one" || return
-  nm "$work/one" | grep -q " T $1\$" && ! nm "$work/one" | grep "$2"
+  nm "$work/one" | grep " T kobdrieft_"
+  [ "$(nm "$work/one" | awk '$3 ~ /^kobdrieft_/ { print $3 }')" = "$1" ]
 }
 
 # unlinked NAME LINKING...: whether something does not link, and the linker says that this name is not there.
@@ -107,17 +110,18 @@ unlinked() {
   ! LC_ALL=C "$cc" "$@" -o "$work/unlinked" 2>"$work/said" && cat "$work/said" && grep undefined "$work/said" | grep -qw "$name"
 }
 
-# without_header NAME PARAMETERS: whether a program that declares one of the two by itself, under its name in C, does not link.
+# without_header NAME PARAMETERS ARGUMENTS: whether a program that declares one of the three by itself, under its name in C, does not
+# link.
 without_header() {
-  printf '#include <stddef.h>\n#include <stdint.h>\nuint64_t %s(%s);\nint main(void) { return %s(NULL, 0, NULL, 0) == 0; }\n' \
-    "$1" "$2" "$1" >"$work/own.c"
+  printf '#include <stddef.h>\n#include <stdint.h>\nuint64_t %s(%s);\nint main(void) { return %s(%s) == 0; }\n' \
+    "$1" "$2" "$1" "$3" >"$work/own.c"
   "$cc" "${strict[@]}" -c "$work/own.c" -o "$work/own.o" && unlinked "$1" "$work/own.o" "${link[@]}"
 }
 
 # without_version NAME CALL: whether a program with the header, which links, does not link with an archive of names without a version.
 without_version() {
   mkdir -p "$work/plain-names"
-  echo 'int kobdrieft_check(void) { return 0; } int kobdrieft_build(void) { return 0; }' >"$work/names.c"
+  printf 'int %s(void) { return 0; }\n' kobdrieft_check kobdrieft_build kobdrieft_stop >"$work/names.c"
   printf '#include <kobdrieft.h>\nint main(void) { return %s == 0; }\n' "$2" >"$work/call.c"
   "$cc" -c "$work/names.c" -o "$work/names.o" && ar rc "$work/plain-names/libkobdrieft.a" "$work/names.o" &&
     "$cc" "${strict[@]}" -c "$work/call.c" -o "$work/call.o" && "$cc" "$work/call.o" "${link[@]}" -o "$work/call" &&
@@ -131,15 +135,22 @@ shared() {
 
 archives() {
   expect "it calls only memory functions" only_memory
-  expect "it exports $build and $check alone" exports_two
+  expect "it exports $build, $check and $stop alone" exports_three
   expect "it has no data" no_data
   expect "the header's version is $version" grep -x "#define KOBDRIEFT_VERSION $version" "$libs/kobdrieft.h"
-  expect "a program that only checks" takes_only "$check" "$build"
-  expect "a program that only plans" takes_only "$build" "$check"
-  expect "a check without header and reserve" without_header kobdrieft_check 'const uint8_t *, size_t, const uint8_t *, size_t'
-  expect "a build without header and reserve" without_header kobdrieft_build 'const uint8_t *, size_t, uint8_t *, size_t'
+  expect "a program that only checks" takes_only "$check"
+  expect "a program that only plans" takes_only "$build"
+  expect "a program that only stops" takes_only "$stop"
+  expect "a check without header and reserve" without_header kobdrieft_check 'const uint8_t *, size_t, const uint8_t *, size_t' \
+    'NULL, 0, NULL, 0'
+  expect "a build without header and reserve" without_header kobdrieft_build 'const uint8_t *, size_t, uint8_t *, size_t' \
+    'NULL, 0, NULL, 0'
+  expect "a stop without header and reserve" without_header kobdrieft_stop \
+    'const uint8_t *, size_t, const uint8_t *, size_t, uint64_t, const uint8_t *, size_t, uint8_t *, size_t' \
+    'NULL, 0, NULL, 0, 1, NULL, 0, NULL, 0'
   expect "a check by an archive without versions" without_version "$check" 'kob_check(0, NULL, 0, NULL, 0)'
   expect "a build by an archive without versions" without_version "$build" 'kob_build(0, NULL, 0, NULL, 0)'
+  expect "a stop by an archive without versions" without_version "$stop" 'kob_stop(0, NULL, 0, NULL, 0, 1, NULL, 0, NULL, 0)'
   expect "a shared object" shared
   group "archive"
 }
@@ -179,7 +190,7 @@ END
 
 texts_are_documented() {
   documented >"$work/documented"
-  [ "$(wc -l <"$work/documented")" -ge 19 ] && "$work/texts" | diff "$work/documented" -
+  [ "$(wc -l <"$work/documented")" -ge 25 ] && "$work/texts" | diff "$work/documented" -
 }
 
 texts() {
@@ -199,7 +210,7 @@ library() {
   "$cc" -c "$work/$1.c" -o "$work/$1.o" && rm -f "$tree/static/lib$1.a" && ar rc "$tree/static/lib$1.a" "$work/$1.o"
 }
 
-# The small repository as it should be; both archives have a function `helper`.
+# The small repository as it should be; all three archives have a function `helper`.
 plant() {
   rm -rf "$tree"
   mkdir -p "$tree/agent" "$tree/docs" "$tree/static"
@@ -207,6 +218,7 @@ plant() {
   cp "$refusals" "$tree/docs/"
   library rules 'int helper(void) { return 1; } int check(void) { return helper(); }'
   library planner 'int helper(void) { return 2; } int build(void) { return helper(); }'
+  library stop 'int helper(void) { return 3; } int check(void) { return 4; } int stop(void) { return helper(); }'
 }
 
 lib() {
@@ -231,13 +243,14 @@ refuses() {
     [ "$(ls -A "$tree/out")" = libkobdrieft.a ] && [ "$(cat "$tree/out/libkobdrieft.a")" = before ]
 }
 
-# Where a program has a `helper` too, all three are called.
+# Where a program has a `helper` too, all four are called.
 helpers_apart() {
   cat >"$work/helpers.c" <<END
 int $check(void);
 int $build(void);
-int helper(void) { return 3; }
-int main(void) { return $check() == 1 && $build() == 2 && helper() == 3 ? 0 : 1; }
+int $stop(void);
+int helper(void) { return 4; }
+int main(void) { return $check() == 1 && $build() == 2 && $stop() == 3 && helper() == 4 ? 0 : 1; }
 END
   "$cc" "$work/helpers.c" -L "$tree/out" -lkobdrieft -o "$work/helpers" && "$work/helpers"
 }
@@ -258,7 +271,7 @@ lib_archives() {
   plant
   expect "lib.sh makes two files" makes
   expect "lib.sh makes them again" makes
-  expect "names of both archives keep apart" helpers_apart
+  expect "names of the three archives keep apart" helpers_apart
   for tool in ld objcopy ar nm awk; do
     plant
     expect "no $tool" refuses "'$tool' is not on the PATH" without "$tool"
@@ -268,13 +281,20 @@ lib_archives() {
   expect "no librules.a" refuses 'librules.a is missing' lib
   plant && rm "$tree/static/libplanner.a"
   expect "no libplanner.a" refuses 'libplanner.a is missing' lib
+  plant && rm "$tree/static/libstop.a"
+  expect "no libstop.a" refuses 'libstop.a is missing' lib
   plant && library rules 'int checks(void) { return 1; }'
-  expect "no check in librules.a" refuses "must define $build and $check alone" lib
+  expect "no check in librules.a" refuses "must define $build, $check and $stop alone" lib
+  plant && library stop 'int stops(void) { return 1; } int check(void) { return 4; }'
+  expect "no stop in libstop.a" refuses "must define $build, $check and $stop alone" lib
   plant && library planner 'int puts(const char *); int build(void) { return puts(""); }'
   expect "a planner that prints" refuses 'calls puts' lib
   plant && library rules '#include <string.h>
 int check(void *a, void *b) { return memcpy(a, b, 99) == a; }'
   expect "a checker that copies" makes
+  plant && library stop '#include <stdlib.h>
+int stop(void) { void *room = malloc(9); free(room); return room != NULL; }'
+  expect "a stop that allocates" refuses 'the archive calls ' lib
   expect "lib.sh with one argument" wrong_use
 }
 
@@ -290,7 +310,7 @@ edited() {
   expect "$1 changed by $2" refuses "$3" lib
 }
 
-# Both names must carry the version that the header states.
+# All names must carry the version that the header states.
 lib_names() {
   local header=agent/kobdrieft.h line='must have the line #define'
   edited $header '/^#define KOBDRIEFT_VERSION /d' "$line KOBDRIEFT_VERSION NUMBER once"
@@ -303,9 +323,13 @@ lib_names() {
   edited $header "s/^\\(#define kobdrieft_build\\) .*/\\1 $check/" "$line kobdrieft_build $build once"
   edited $header '/^#define kobdrieft_build /d' "$line kobdrieft_build $build once"
   edited $header '/^#define kobdrieft_build /p' "$line kobdrieft_build $build once"
+  edited $header 's/^#define kobdrieft_stop .*/&0/' "$line kobdrieft_stop $stop once"
+  edited $header "s/^\\(#define kobdrieft_stop\\) .*/\\1 $check/" "$line kobdrieft_stop $stop once"
+  edited $header '/^#define kobdrieft_stop /d' "$line kobdrieft_stop $stop once"
+  edited $header '/^#define kobdrieft_stop /p' "$line kobdrieft_stop $stop once"
   plant && sed -i 's/^\(#define KOBDRIEFT_VERSION \).*/\1987/; s/^\(#define kobdrieft_.*_v\).*/\1987/' "$tree/$header"
   expect "another version" makes
-  expect "the names of another version" test "$(names "$tree/out/libkobdrieft.a")" = $'kobdrieft_build_v987\nkobdrieft_check_v987'
+  expect "the names of another version" test "$(names "$tree/out/libkobdrieft.a")" = "${three//_v$version/_v987}"
 }
 
 lib_texts() {
@@ -314,6 +338,9 @@ lib_texts() {
   edited $page '/^| 1 |/d' 'number 1 is missing'
   edited $page '/^| 7 |/d' 'number 7 is missing'
   edited $page '/^| 19 |/d' 'number 19 is missing'
+  edited $page '/^| 20 |/d' 'number 20 is missing'
+  edited $page '/^| 21 |/d' 'number 21 is missing'
+  edited $page '/^| 22 |/d' 'number 22 is missing'
   edited $page '/^| 33 |/d' 'number 33 is missing'
   edited $page '/^| 7 |/p' 'number 7 is there twice'
   edited $page 's/^| 7 |/| 8 |/' 'number 8 is there twice'
@@ -323,6 +350,7 @@ lib_texts() {
   edited $page 's/^| 7 |/| seven |/' 'is no row'
   edited $page 's/what it means/meaning/' 'number 23 is missing'
   edited agent/kobdrieft.h '/KOB_FAULT_BEFORE/d' 'number 33 is not in kob_fault'
+  edited agent/kobdrieft.h '/KOB_FAULT_MARK/d' 'number 21 is not in kob_fault'
   edited agent/kobdrieft.h '/kobdrieft_texts/d' 'must have the line'
   edited agent/kobdrieft.h '/kobdrieft_texts/p' 'must have the line'
 }
@@ -330,7 +358,7 @@ lib_texts() {
 # A later number, and all that needs care in a C string.
 later_text() {
   plant
-  sed -i 's/^    KOB_FAULT_OFF_TARGET = 19/&,\n    KOB_FAULT_LATER_2 = 934/' "$tree/agent/kobdrieft.h"
+  sed -i 's/^    KOB_FAULT_STOP_BUFFER = 22/&,\n    KOB_FAULT_LATER_2 = 934/' "$tree/agent/kobdrieft.h"
   # shellcheck disable=SC2016
   printf '\n| number | what it means | what to do |\n|--:|---|---|\n| 934 | %s | x |\n' \
     'A `code` "quote", a \n, 100% of ??/ & what?' >>"$tree/docs/REFUSALS.md"
@@ -371,6 +399,7 @@ builds() {
   program "$label" test_reader test_reader.c test_common.c test_pages.c -- "$@"
   program "$label" test_reserve test_reserve.c test_common.c -- "$@"
   program "$label" test_before test_before.c test_common.c -- "$@"
+  program "$label" test_stop test_stop.c test_common.c test_pages.c -- "$@"
   program "$label" test_names test_names.c test_common.c -- "$@"
   group "$label: built without a warning"
 }
@@ -412,6 +441,8 @@ static bool refuses_nothing()
     unsigned char out[KOB_BUILD_BUFFER];
     return kob_refusal_number(kob_build(0, nullptr, 0, out, sizeof out)) == KOB_FAULT_CLUSTER_SHORT
            && kob_refusal_number(kob_check(0, nullptr, 0, nullptr, 0)) == KOB_FAULT_CLUSTER_SHORT
+           && kob_refusal_number(kob_stop(0, nullptr, 0, nullptr, 0, 1, nullptr, 0, out, sizeof out))
+                  == KOB_FAULT_CLUSTER_SHORT
            && kob_fault_text(KOB_FAULT_CLUSTER_SHORT)[0] != 0;
 }
 
@@ -419,7 +450,9 @@ static bool refuses_a_reserve()
 {
     unsigned char bytes[1] = {0}, out[1] = {0};
     return kob_refusal_number(kobdrieft_build(KOB_MAX_RESERVE + 1, bytes, 1, out, 1)) == KOB_FAULT_RESERVE
-           && kob_refusal_number(kobdrieft_check(KOB_MAX_RESERVE + 1, bytes, 1, out, 1)) == KOB_FAULT_RESERVE;
+           && kob_refusal_number(kobdrieft_check(KOB_MAX_RESERVE + 1, bytes, 1, out, 1)) == KOB_FAULT_RESERVE
+           && kob_refusal_number(kobdrieft_stop(KOB_MAX_RESERVE + 1, bytes, 1, bytes, 1, 1, bytes, 1, out, 1))
+                  == KOB_FAULT_RESERVE;
 }
 
 static bool reads_a_plan()
@@ -492,13 +525,13 @@ says() {
   [ "$status" -eq "$wanted" ] && grep -qF -- "$text" "$work/said"
 }
 
-# keeps STATUS TEXT ARGUMENT...: the same, and PLAN-OUT stays as it was.
+# keeps STATUS TEXT ARGUMENT...: the same, and PLAN-OUT, or CLUSTER-OUT, stays as it was.
 keeps() {
   echo before >"$work/kept"
   says "$@" "$work/kept" && [ "$(cat "$work/kept")" = before ]
 }
 
-# writes STATUS TEXT RECORD ARGUMENT...: the same, and PLAN-OUT is then that record.
+# writes STATUS TEXT RECORD ARGUMENT...: the same, and PLAN-OUT, or CLUSTER-OUT, is then that record.
 writes() {
   local wanted=$1 text=$2 record=$3
   shift 3
@@ -627,10 +660,163 @@ agent_faults() {
   expect "an unknown option" keeps 3 'usage: ' --force "$work/a"
 }
 
-# unheard CLUSTER: whether the agent says that its lines got lost.
+# unheard ARGUMENT...: whether the agent says that its lines got lost.
 unheard() {
-  "$agent" "$1" "$work/got" >/dev/full 2>"$work/said"
+  "$agent" "$@" "$work/got" >/dev/full 2>"$work/said"
   [ $? -eq 3 ] && grep -F 'cannot write standard output' "$work/said"
+}
+
+# stopped MEMORY PLACES TEXT ARGUMENT...: whether the agent stops a plan for A with this memory on each node, says so, and writes its record
+# with the two VMs on these nodes.
+stopped() {
+  local memory=$1 places=$2 text=$3
+  shift 3
+  record "$work/left" "01 00000028 0003 0002 0000 0000${memory}0064 0000${memory}0064 0000${memory}0064
+    0000030032 ${places% *} 01 0000020032 ${places#* } 00"
+  writes 0 "agent: stopped: $text; written to $work/got" "$work/left" "$@"
+}
+
+# What the agent said of a stop, as the examples have it.
+stopped_line() {
+  if grep -q '^agent: stopped: ' "$1"; then
+    echo "stopped length $(wc -c <"$work/got" | tr -d ' ')"
+  else
+    sed -E 's/^agent: refused, number ([0-9]+), step ([0-9]+); .*/refused \1 step \2/
+      s/^agent: refused, number ([0-9]+); .*/refused \1 step 0/' "$1"
+  fi
+}
+
+# stopped_as NAME: whether the agent says of an example what it must, and writes its record or, if refused, nothing. NAME is
+# CLUSTER.stop-STEP-MARKS or CLUSTER.reserve-R.stop-STEP-MARKS.
+stopped_as() {
+  local name=$1 after=$examples/$1.after options status wanted=0
+  [[ $name =~ ^(.+)\.stop-([0-9]+)-([0-9]+)$ ]] || return
+  name=${BASH_REMATCH[1]} options=(--stop "${BASH_REMATCH[2]}" "${BASH_REMATCH[3]}")
+  if [[ $name =~ ^(.+)\.reserve-([0-9]+)$ ]]; then
+    name=${BASH_REMATCH[1]}
+    options+=(--reserve "${BASH_REMATCH[2]}")
+  fi
+  echo before | tee "$work/kept" >"$work/got"
+  "$agent" "${options[@]}" "$examples/$name.cluster" "$examples/$name.plan" "$work/got" >"$work/said"
+  status=$?
+  grep -q '^refused' "$examples/$1.stopped" && wanted=2 after=$work/kept
+  [ "$status" -eq "$wanted" ] && stopped_line "$work/said" | diff "$examples/$1.stopped" - && cmp "$work/got" "$after"
+}
+
+agent_stops() {
+  local example
+  record "$work/both" '01 0000000d 0001 0002 00 01 01 00'
+  expect "A, step 1 ended" stopped 04 '02 01' 'step 1, 1 of 1 moves ended' --stop 1 1 "$work/a" "$work/plan"
+  expect "A, step 1 called back" stopped 04 '00 01' 'step 1, 0 of 1 moves ended' --stop 1 0 "$work/a" "$work/plan"
+  expect "A, step 3 called back" stopped 04 '02 00' 'step 3, 0 of 1 moves ended' --stop 3 0 "$work/a" "$work/plan"
+  expect "both, one ended" stopped 05 '00 00' 'step 1, 1 of 2 moves ended' --stop 1 01 "$work/five" "$work/both"
+  expect "both, the other ended" stopped 05 '01 01' 'step 1, 1 of 2 moves ended' --stop 1 10 "$work/five" "$work/both"
+  expect "both ended" stopped 05 '01 00' 'step 1, 2 of 2 moves ended' --stop 1 11 "$work/five" "$work/both"
+  expect "zeros before a step" stopped 04 '02 00' 'step 2, 1 of 1 moves ended' --stop 000000000000000000002 1 "$work/a" "$work/plan"
+  expect "options behind" stopped_behind
+  expect "at reserve 25" stopped 04 '02 01' 'step 1, 1 of 1 moves ended' --reserve 25 --stop 1 1 "$work/a" "$work/plan"
+  expect "the reserve behind" stopped 04 '02 01' 'step 1, 1 of 1 moves ended' --stop 1 1 --reserve 25 "$work/a" "$work/plan"
+  expect "over the cluster record itself" stopped_over
+  expect "256 moves, all ended" stopped_all "$work/all"
+  expect "planned again" planned_again
+  expect "one line" one_line
+  for example in "$examples"/*.stopped; do
+    expect "$example" stopped_as "$(basename "$example" .stopped)"
+  done
+  agent_stop_refusals
+  agent_stop_use
+}
+
+# The options may stand behind the files.
+stopped_behind() {
+  echo before >"$work/got"
+  says 0 'stopped: step 1, 1 of 1' "$work/a" "$work/plan" "$work/got" --reserve 1 --stop 1 1 &&
+    [ "$(od -An -tu1 -j31 -N1 "$work/got" | tr -d ' ')" = 2 ]
+}
+
+# CLUSTER-OUT may be CLUSTER: it is read before it is written.
+stopped_over() {
+  cp "$work/a" "$work/over-itself"
+  says 0 'stopped: step 1' --stop 1 1 "$work/over-itself" "$work/plan" "$work/over-itself" &&
+    [[ $(cmp -l "$work/a" "$work/over-itself") =~ ^\ *32\ +0\ +2$ ]]
+}
+
+# A step of 256 moves takes 256 marks, and no other number.
+stopped_all() {
+  local ended vms moves left
+  ended=$(printf '1%.0s' {1..256})
+  vms=$(printf '0000010000 00 01 %.0s' {1..256})
+  left=$(printf '0000010000 01 01 %.0s' {1..256})
+  moves=$(printf '%02x 01 ' {0..255})
+  record "$1-vms" "01 00000715 0002 0100 0000 0010000000 0010000000 $vms"
+  record "$1-left" "01 00000715 0002 0100 0000 0010000000 0010000000 $left"
+  record "$1-plan" "01 00000209 0001 0100 $moves"
+  writes 0 'stopped: step 1, 256 of 256 moves ended' "$1-left" --stop 1 "$ended" "$1-vms" "$1-plan" &&
+    keeps 2 'refused, number 20; ' --stop 1 "${ended}1" "$1-vms" "$1-plan" &&
+    keeps 2 'refused, number 20; ' --stop 1 "${ended%1}" "$1-vms" "$1-plan"
+}
+
+# From where VM 0 has stepped aside, the rest of A's plan is planned.
+planned_again() {
+  says 0 'stopped: step 1' --stop 1 1 "$work/a" "$work/plan" "$work/left" &&
+    says 0 'plan: steps 2, moves 2, cost 7; written' "$work/left" "$work/got" && prints $'1 1 1 0\n2 0 2 1' "$work/left"
+}
+
+one_line() {
+  "$agent" --stop 1 1 "$work/a" "$work/plan" "$work/got" >"$work/said" && [ "$(wc -l <"$work/said")" -eq 1 ]
+}
+
+agent_stop_refusals() {
+  local word
+  for word in 0 4 65537 4294967297 18446744073709551615 18446744073709551616 18446744073709551617 99999999999999999999999; do
+    expect "step $word" keeps 2 "agent: refused, number 20; nothing written. $(text_of 20)" --stop $word 1 "$work/a" "$work/plan"
+  done
+  for word in 00 11 111 "$(printf '0%.0s' {1..256})" "$(printf '1%.0s' {1..257})" "$(printf '1%.0s' {1..5000})"; do
+    expect "${#word} marks for one" keeps 2 'refused, number 20; ' --stop 1 "$word" "$work/a" "$work/plan"
+  done
+  for word in 2 3 9; do
+    expect "mark $word" keeps 2 "agent: refused, number 21; nothing written. $(text_of 21)" --stop 1 $word "$work/a" "$work/plan"
+  done
+  expect "one mark for two" keeps 2 'refused, number 20; ' --stop 1 1 "$work/five" "$work/both"
+  expect "marks of 1 and 2" keeps 2 'refused, number 21; ' --stop 1 12 "$work/five" "$work/both"
+  expect "a step of the plan refused" keeps 2 "agent: refused, number 17, step 1; nothing written. $(text_of 17)" \
+    --stop 1 11 "$work/a" "$work/both"
+  expect "the same at reserve 1" keeps 2 'refused, number 17, step 1; ' --reserve 1 --stop 1 11 "$work/five" "$work/both"
+  expect "an incomplete plan" keeps 2 "agent: refused, number 19; nothing written. $(text_of 19)" --stop 1 1 "$work/half" "$work/half-plan"
+  expect "an empty plan" keeps 2 'refused, number 19; ' --stop 1 1 "$work/a" "$work/empty"
+  expect "no steps" keeps 2 'refused, number 19; ' --stop 1 1 "$work/a" "$work/no-steps"
+  expect "a damaged cluster" keeps 2 'refused, number 6; ' --stop 1 1 "$work/damaged" "$work/plan"
+  expect "an empty cluster" keeps 2 'refused, number 1; ' --stop 1 1 "$work/empty" "$work/plan"
+  expect "files swapped" keeps 2 'refused, number 5; ' --stop 1 1 "$work/plan" "$work/a"
+  expect "a cluster as plan" keeps 2 'refused, number 14; ' --stop 1 1 "$work/a" "$work/a"
+  expect "a plan of 70,000 bytes" keeps 2 'refused, number 13; ' --stop 1 1 "$work/a" "$work/long"
+  expect "reserve 26" keeps 2 'refused, number 8; ' --reserve 26 --stop 1 1 "$work/a" "$work/plan"
+  expect "reserve 91" keeps 2 'refused, number 23; ' --reserve 91 --stop 0 2 "$work/empty" "$work/empty"
+}
+
+agent_stop_use() {
+  local word
+  for word in '' -1 +1 1x x ' 1' '1 ' 0x1 1.0 - --; do
+    expect "step '$word'" keeps 3 'usage: ' --stop "$word" 1 "$work/a" "$work/plan"
+    expect "marks '$word'" keeps 3 'usage: ' --stop 1 "$word" "$work/a" "$work/plan"
+  done
+  expect "marks apart" keeps 3 'usage: ' --stop 1 0 1 "$work/five" "$work/both"
+  expect "two files" keeps 3 'usage: ' --stop 1 1 "$work/a"
+  expect "four files" keeps 3 'usage: ' --stop 1 1 "$work/a" "$work/plan" "$work/got"
+  expect "no marks" says 3 'usage: ' "$work/a" "$work/plan" "$work/got" --stop 1
+  expect "no step" says 3 'usage: ' "$work/a" "$work/plan" "$work/got" --stop
+  expect "stopped twice" keeps 3 'usage: ' --stop 1 1 --stop 1 1 "$work/a" "$work/plan"
+  expect "blocked steps of a stop" keeps 3 'usage: ' --keep-blocked --stop 1 1 "$work/a" "$work/plan"
+  expect "a step in the same word" keeps 3 'usage: ' --stop=1 1 "$work/a" "$work/plan"
+  expect "a missing cluster" keeps 3 "cannot read $work/nowhere" --stop 1 1 "$work/nowhere" "$work/plan"
+  expect "a missing plan" keeps 3 "cannot read $work/nowhere" --stop 1 1 "$work/a" "$work/nowhere"
+  expect "a folder as plan" keeps 3 'cannot read' --stop 1 1 "$work/a" "$work"
+  expect "no folder to write to" says 3 'cannot write' --stop 1 1 "$work/a" "$work/plan" "$work/nowhere/cluster"
+  if [ -c /dev/full ]; then
+    expect "a full disk" says 3 'cannot write' --stop 1 1 "$work/a" "$work/plan" /dev/full
+    expect "nowhere to print a stop" unheard --stop 1 1 "$work/a" "$work/plan"
+    expect "nowhere to print its refusal" unheard --stop 0 1 "$work/a" "$work/plan"
+  fi
 }
 
 agents() {
@@ -640,16 +826,27 @@ agents() {
   agent_reserves
   agent_faults
   group "$1: agent"
+  agent_stops
+  group "$1: agent, stops"
 }
 
-# The agent with a planner and a checker that disagree.
+# disagrees NUMBER TEXT ARGUMENT...: the agent with a library that is wrong in this way.
+disagrees() {
+  local number=$1
+  shift
+  agent=$work/wrong
+  expect "wrong library $number" "$cc" "${strict[@]}" "${sanitize[@]}" -DWRONG="$number" "$here/agent.c" \
+    "$here/test_wrong.c" -o "$agent"
+  expect "disagreement $number" keeps 5 "$@"
+}
+
 wrong() {
   local i
-  agent=$work/wrong
-  for i in 1 2 3 4 5 6 7 8 9 10 11 12 13 14; do
-    expect "wrong library $i" "$cc" "${strict[@]}" "${sanitize[@]}" -DWRONG=$i "$here/agent.c" \
-      "$here/test_wrong.c" -o "$agent"
-    expect "disagreement $i" keeps 5 'planner and checker disagree' --keep-blocked "$work/a"
+  for i in {1..14}; do
+    disagrees "$i" 'planner and checker disagree' --keep-blocked "$work/a"
+  done
+  for i in {21..36}; do
+    disagrees "$i" 'stop, checker and planner disagree' --reserve 25 --stop 1 1 "$work/a" "$work/plan"
   done
   group "disagreement"
 }
@@ -663,7 +860,7 @@ builds sanitized "${sanitize[@]}"
 more_builds
 cplusplus
 for label in plain sanitized; do
-  for name in test_names test_header test_reader test_reserve test_before; do
+  for name in test_names test_header test_reader test_reserve test_before test_stop; do
     run "$label" "$work/$label/$name"
   done
 done

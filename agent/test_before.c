@@ -3,34 +3,13 @@
 
 #include "test.h"
 
-/* ---- rooms and plans from texts */
+/* ---- rooms */
 
-/* A digit, or '-' for no node. */
-static uint32_t place(char character)
-{
-    return character == '-' ? KOB_NOWHERE : (uint32_t)(character - '0');
-}
-
-/* Three nodes of memory 10 and CPU 100, and VMs of memory 3, 2 and 1 and CPU 10. `vms` has a VM's current and
- * target place in two characters, and a space before the next VM. It is of version 2 if a VM is on no node. */
-static void put_room(struct record *cluster, const char *vms)
-{
-    uint32_t count = (uint32_t)(strlen(vms) + 1) / 3;
-    put_cluster(cluster, 3, count, 0);
-    for (int i = 0; i < 3; i++)
-        put_node(cluster, 10, 100);
-    for (uint32_t i = 0; i < count; i++)
-        put_vm(cluster, 3 - i, 10, place(vms[3 * i]), place(vms[3 * i + 1]));
-    if (strchr(vms, '-') != NULL)
-        cluster->bytes[0] = 2;
-    finish(cluster);
-}
-
-/* The same, where VM 1 waits for VM 0. */
+/* A room in which VM 1 waits for VM 0. */
 static const struct record *waiting(const char *vms)
 {
     static struct record cluster;
-    put_room(&cluster, vms);
+    put_text_room(&cluster, vms);
     put_before(&cluster, 0, 1);
     return &cluster;
 }
@@ -39,28 +18,13 @@ static const struct record *waiting(const char *vms)
 static const struct record *waiting_by(const char *pairs, const char *vms)
 {
     static struct record cluster;
-    put_room(&cluster, vms);
+    put_text_room(&cluster, vms);
     for (size_t i = 0; i < strlen(pairs); i += 3)
         put_before(&cluster, (uint8_t)place(pairs[i]), (uint8_t)place(pairs[i + 1]));
     return &cluster;
 }
 
-/* A move has three characters: VM, source, destination. '+' stands between moves of one step, a space between
- * steps. */
-static void put_steps(struct record *plan, uint32_t version, const char *steps)
-{
-    put_plan(plan, version, 0);
-    while (*steps != '\0') {
-        size_t moves = (strcspn(steps, " ") + 1) / 4;
-        plan->bytes[6]++;
-        put(plan, 2, (uint32_t)moves);
-        for (; moves > 0; moves--, steps += steps[3] == '\0' ? 3 : 4)
-            put_move(plan, place(steps[0]), place(steps[1]), place(steps[2]));
-    }
-    finish(plan);
-}
-
-/* ---- what the two calls say */
+/* ---- what is checked and built */
 
 /* Whether a plan of this version gets this verdict, and what is lent stays. A room of version 1 is asked as one
  * of version 2 too. */
@@ -70,10 +34,10 @@ static int gives_in(uint32_t version, uint64_t reserve, const struct record *clu
     static struct record room, plan;
     int good = 1;
     set(&room, cluster->bytes, cluster->len);
-    put_steps(&plan, version, steps);
+    put_text_plan(&plan, version, steps);
     for (; room.bytes[0] <= 2; room.bytes[0]++) {
         struct answers got = ask(reserve, &room, &plan, KOB_BUILD_BUFFER);
-        good = good && got.verdict == verdict && got.kept;
+        good = good && got.verdict == verdict && got.right;
     }
     return good;
 }
@@ -93,7 +57,7 @@ static int builds_at(uint64_t reserve, const struct record *cluster, uint64_t an
     uint8_t out[KOB_BUILD_BUFFER];
     int good = 1;
     set(&room, cluster->bytes, cluster->len);
-    put_steps(&plan, KOB_BUILD_VERSION, steps);
+    put_text_plan(&plan, KOB_BUILD_VERSION, steps);
     for (; room.bytes[0] <= 2; room.bytes[0]++) {
         memset(out, FILL, sizeof out);
         good = good && kob_build(reserve, room.bytes, room.len, out, sizeof out) == answer
@@ -114,7 +78,7 @@ static int builds(const struct record *cluster, uint64_t answer, const char *ste
 static void test_second_waits(void)
 {
     static struct record free_room;
-    put_room(&free_room, "01 02");
+    put_text_room(&free_room, "01 02");
     expect(gives(&free_room, "001+102", 5), "nobody waits: both in one step");
     expect(gives(waiting("01 02"), "001 102", 8), "the first, then the second");
     expect(gives(waiting("01 02"), "001+102", refused(33, 1)), "both in one step");
@@ -254,7 +218,7 @@ static void test_order(void)
     expect(gives(&cluster, "001+102", refused(33, 1)), "33 if no mates meet");
     expect(gives(&cluster, "102", refused(33, 1)), "33 before 19");
     expect(gives(&cluster, "001", refused(19, 0)), "19 alone");
-    put_steps(&plan, 2, "001+102");
+    put_text_plan(&plan, 2, "001+102");
     plan.bytes[6] = 2; /* steps */
     expect(kob_check(0, cluster.bytes, cluster.len, plan.bytes, plan.len) == refused(14, 0), "14 before 33");
     cluster.bytes[18] = 2;
@@ -264,15 +228,15 @@ static void test_order(void)
 
 /* ---- constraints that are malformed */
 
-/* Whether both calls refuse a room with these bytes as its constraint, and change nothing. */
+/* Whether all calls refuse a room with these bytes as its constraint, and change nothing. */
 static int refuses(const char *vms, const uint8_t *constraint, size_t len, unsigned number)
 {
     static struct record cluster, plan;
-    put_room(&cluster, vms);
+    put_text_room(&cluster, vms);
     constrain(&cluster, constraint, len);
-    put_steps(&plan, 2, "");
+    put_text_plan(&plan, 2, "");
     struct answers got = ask(0, &cluster, &plan, KOB_BUILD_BUFFER);
-    return got.verdict == refused(number, 0) && got.built == got.verdict && got.kept;
+    return got.verdict == refused(number, 0) && got.built == got.verdict && got.right;
 }
 
 /* Whether they refuse this pair with 7. */
@@ -292,7 +256,7 @@ static void test_pairs(void)
     expect(refuses_pair("01", 0, 0) && refuses_pair("01", 0, 1) && refuses_pair("01", 1, 0), "one VM alone");
     expect(refuses_pair("", 0, 0) && refuses_pair("", 0, 1), "no VM");
     expect(refuses_pair("-- --", 255, 0) && refuses_pair("-- --", 0, 255), "255 is no VM of version 2 either");
-    put_room(&cluster, "01 02");
+    put_text_room(&cluster, "01 02");
     put_before(&cluster, 0, 1);
     for (unsigned pair = 0; pair < 65536; pair++) {
         cluster.bytes[cluster.len - 2] = (uint8_t)(pair >> 8);
@@ -338,7 +302,7 @@ static void test_kinds(void)
         good = good && (kind == 5 || refuses("01 02", constraint, sizeof constraint, 7));
     }
     expect(good, "two bytes are for kind 5 alone");
-    put_room(&cluster, "01 02");
+    put_text_room(&cluster, "01 02");
     for (int i = 0; i < KOB_MAX_CONSTRAINTS; i++)
         put_before(&cluster, 0, 1);
     expect(gives(&cluster, "001 102", 8) && gives(&cluster, "001+102", refused(33, 1)), "128 that wait");
@@ -354,7 +318,7 @@ static void test_kinds(void)
 static void test_planned(void)
 {
     static struct record free_room;
-    put_room(&free_room, "01 02");
+    put_text_room(&free_room, "01 02");
     expect(builds(&free_room, made(KOB_PLAN, 1, 2, 5), "001+102"), "nobody waits");
     expect(builds(waiting("01 02"), made(KOB_PLAN, 2, 2, 8), "001 102"), "VM 1 waits for VM 0");
     expect(builds(waiting_by("10", "01 02"), made(KOB_PLAN, 2, 2, 7), "102 001"), "VM 0 waits for VM 1");
@@ -443,7 +407,7 @@ static void put_numbered(struct record *cluster, unsigned number, char vms[6])
     vms[3] = places[number >> 4 & 3];
     vms[4] = places[number >> 6 & 3];
     vms[5] = '\0';
-    put_room(cluster, vms);
+    put_text_room(cluster, vms);
 }
 
 /* The move of a VM to its target, as a text: nothing if it is there. */

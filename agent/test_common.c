@@ -174,6 +174,88 @@ void put_move(struct record *plan, uint32_t vm, uint32_t source, uint32_t destin
     put(plan, 1, destination);
 }
 
+/* ---- records from texts */
+
+uint32_t place(char character)
+{
+    return character == '-' ? KOB_NOWHERE : (uint32_t)(character - '0');
+}
+
+void put_text_room(struct record *cluster, const char *vms)
+{
+    uint32_t count = (uint32_t)(strlen(vms) + 1) / 3;
+    put_cluster(cluster, 3, count, 0);
+    for (int i = 0; i < 3; i++)
+        put_node(cluster, 10, 100);
+    for (uint32_t i = 0; i < count; i++)
+        put_vm(cluster, 3 - i, 10, place(vms[3 * i]), place(vms[3 * i + 1]));
+    if (strchr(vms, '-') != NULL)
+        cluster->bytes[0] = 2;
+    finish(cluster);
+}
+
+void put_text_plan(struct record *plan, uint32_t version, const char *steps)
+{
+    put_plan(plan, version, 0);
+    while (*steps != '\0') {
+        size_t moves = (strcspn(steps, " ") + 1) / 4;
+        plan->bytes[6]++;
+        put(plan, 2, (uint32_t)moves);
+        for (; moves > 0; moves--, steps += steps[3] == '\0' ? 3 : 4)
+            put_move(plan, place(steps[0]), place(steps[1]), place(steps[2]));
+    }
+    finish(plan);
+}
+
+/* ---- records with a fault */
+
+void put_cluster_fault(struct record *cluster, unsigned number)
+{
+    static const uint8_t no_kind[] = {0, 0};
+    static const uint8_t ban[] = {0, 6, 1, 0, 1, 0, 1, 1}; /* VM 0 from node 1 */
+    set(cluster, cluster_a, sizeof cluster_a);
+    switch (number) {
+    case KOB_FAULT_CLUSTER_SHORT: cluster->len = 10; break;
+    case KOB_FAULT_CLUSTER_VERSION: cluster->bytes[0] = 3; break;
+    case KOB_FAULT_CLUSTER_LENGTH: cluster->bytes[4] = 41; break;
+    case KOB_FAULT_CLUSTER_COUNTS: cluster->bytes[6] = 0; break; /* nodes */
+    case KOB_FAULT_CLUSTER_FILL: cluster->bytes[8] = 1; break;   /* VMs */
+    case KOB_FAULT_VM_ROW: cluster->bytes[28] = 0; break;        /* VM 0's memory */
+    case KOB_FAULT_CONSTRAINT: constrain(cluster, no_kind, sizeof no_kind); break;
+    case KOB_FAULT_TARGET_OVERFULL: cluster->bytes[13] = 1; break; /* node 0's memory */
+    case KOB_FAULT_TARGET_BROKEN: constrain(cluster, ban, sizeof ban); break;
+    default: break;
+    }
+}
+
+void put_plan_fault(struct record *cluster, struct record *plan, unsigned number)
+{
+    static const uint8_t ban[] = {0, 6, 1, 0, 1, 0, 1, 2}; /* VM 0 from node 2 */
+    static const uint8_t spread[] = {0, 5, 3, 0, 2, 0, 1};
+    static const uint8_t beside[] = {2, 0, 0, 0, 12, 0, 1, 0, 1, 0, 0, 1}; /* VM 0 to node 1 */
+    static const uint8_t no_steps[] = {2, 0, 0, 0, 7, 0, 0};
+    put_cluster_fault(cluster, 0);
+    set(plan, plan_a, sizeof plan_a);
+    switch (number) {
+    case KOB_FAULT_PLAN_SHORT: plan->len = 6; break;
+    case KOB_FAULT_PLAN_VERSION: plan->bytes[0] = 3; break;
+    case KOB_FAULT_PLAN_LENGTH: plan->bytes[4] = 23; break;
+    case KOB_FAULT_PLAN_SHAPE: plan->bytes[6] = 2; break; /* steps */
+    case KOB_FAULT_MISNAMED: plan->bytes[11] = 0; break;  /* the first destination */
+    case KOB_FAULT_ELSEWHERE: plan->bytes[10] = 1; break; /* the first source */
+    case KOB_FAULT_FORBIDDEN: constrain(cluster, ban, sizeof ban); break;
+    case KOB_FAULT_MISFIT: cluster->bytes[23] = 2; break; /* node 2's memory */
+    case KOB_FAULT_MATE:
+        constrain(cluster, spread, sizeof spread);
+        cluster->bytes[13] = cluster->bytes[18] = 5; /* the memory of nodes 0 and 1 */
+        set(plan, beside, sizeof beside);
+        break;
+    case KOB_FAULT_BEFORE: put_before(cluster, 1, 0); break; /* VM 0 waits for VM 1 */
+    case KOB_FAULT_OFF_TARGET: set(plan, no_steps, sizeof no_steps); break;
+    default: break;
+    }
+}
+
 /* ---- calls */
 
 struct answers ask(uint64_t reserve, const struct record *cluster, const struct record *plan, size_t out_len)
@@ -184,8 +266,12 @@ struct answers ask(uint64_t reserve, const struct record *cluster, const struct 
     uint8_t *out = filled(out_len);
     answers.verdict = kobdrieft_check(reserve, c, cluster->len, p, plan->len);
     answers.built = kobdrieft_build(reserve, c, cluster->len, out, out_len);
-    answers.kept = memcmp(c, cluster->bytes, cluster->len) == 0 && memcmp(p, plan->bytes, plan->len) == 0
-                   && (kob_outcome_of(answers.built) != KOB_REFUSED || all_are(out, out_len, FILL));
+    answers.right = kob_outcome_of(answers.built) != KOB_REFUSED || all_are(out, out_len, FILL);
+    memset(out, FILL, out_len);
+    uint64_t stopped = kobdrieft_stop(reserve, c, cluster->len, p, plan->len, 0, c, 0, out, out_len);
+    answers.right = answers.right && all_are(out, out_len, FILL)
+                    && stopped == (kob_outcome_of(answers.verdict) == KOB_REFUSED ? answers.verdict : refused(20, 0))
+                    && memcmp(c, cluster->bytes, cluster->len) == 0 && memcmp(p, plan->bytes, plan->len) == 0;
     free(c);
     free(p);
     free(out);

@@ -25,10 +25,19 @@ static void test_unpackers(void)
     expect(kob_refusal_step(refusal) == 512, "step of a refusal");
     expect(kob_refusal_number(refused(33, 7)) == KOB_FAULT_BEFORE, "number of 33");
     expect(kob_refusal_step(refused(33, 7)) == 7, "step of 33");
+    expect(kob_refusal_number(refused(22, 0)) == KOB_FAULT_STOP_BUFFER, "number of 22");
+    expect(kob_refusal_step(refused(22, 0)) == 0, "step of 22");
     expect(kob_steps(refusal) == 0 && kob_moves(refusal) == 0, "a refusal has no steps");
     expect(kob_cost(refusal) == 0, "a refusal has no cost");
     expect(kob_outcome_of(0) == KOB_PLAN && kob_cost(0) == 0 && kob_steps(0) == 0, "the empty plan");
     expect(kob_cost(16) == 16 && kob_steps(16) == 0 && kob_moves(16) == 0, "an accepted plan");
+    expect(kob_outcome_of(40) == KOB_STOPPED && kob_length(40) == 40, "a stop");
+    expect(kob_length(most) == most && kob_length(plan) == most, "the longest record there could be");
+    expect(kob_length(0) == 0 && kob_length(65535) == KOB_MAX_CLUSTER_BYTES, "the longest that there is");
+    expect(kob_length(refusal) == 0 && kob_length(refused(22, 0)) == 0, "a refusal has no length");
+    expect(kob_steps(40) == 0 && kob_moves(40) == 0 && kob_refusal_number(40) == 0, "a stop has no steps");
+    expect(KOB_MARK_STAYED == 0 && KOB_MARK_ENDED == 1, "the marks");
+    expect(KOB_FAULT_NO_STEP == 20 && KOB_FAULT_MARK == 21 && KOB_FAULT_STOP_BUFFER == 22, "20 to 22");
     expect(kob_plan_length(plan_a) == 22, "length in a header");
     expect(kob_plan_length((const uint8_t *)"\1\1\2\3\4") == 0x01020304, "length in big-endian");
     group("unpackers");
@@ -47,21 +56,23 @@ static void test_texts(void)
         int differs = 1;
         for (unsigned other = 0; other < number; other++)
             differs = differs && strcmp(text, kob_fault_text(other)) != 0;
-        if (number <= KOB_FAULT_OFF_TARGET || number == KOB_FAULT_RESERVE || number == KOB_FAULT_ELSEWHERE
-            || number == KOB_FAULT_BEFORE)
+        if (number <= KOB_FAULT_RESERVE || number == KOB_FAULT_ELSEWHERE || number == KOB_FAULT_BEFORE)
             expect(is_line(text) && differs, "a text for each number");
         else
-            expect(strcmp(text, "Unknown number.") == 0, "no text for another number between 19 and 33");
+            expect(strcmp(text, "Unknown number.") == 0, "no text for another number between 23 and 33");
     }
     expect(strstr(kob_fault_text(KOB_FAULT_CLUSTER_SHORT), "11 bytes") != NULL, "text 1");
     expect(strstr(kob_fault_text(KOB_FAULT_BUFFER_SHORT), "2,562") != NULL, "text 10");
     expect(strstr(kob_fault_text(KOB_FAULT_OFF_TARGET), "target") != NULL, "text 19");
+    expect(strstr(kob_fault_text(KOB_FAULT_NO_STEP), "step") != NULL, "text 20");
+    expect(strstr(kob_fault_text(KOB_FAULT_MARK), "mark") != NULL, "text 21");
+    expect(strstr(kob_fault_text(KOB_FAULT_STOP_BUFFER), "buffer") != NULL, "text 22");
     expect(strstr(kob_fault_text(KOB_FAULT_RESERVE), "reserve") != NULL, "text 23");
     expect(strstr(kob_fault_text(KOB_FAULT_ELSEWHERE), "source") != NULL, "text 27");
     expect(strstr(kob_fault_text(KOB_FAULT_BEFORE), "waits") != NULL, "text 33");
     expect(strcmp(kob_fault_text(256), "Unknown number.") == 0, "text of 256");
     expect(strcmp(kob_fault_text(~0u), "Unknown number.") == 0, "text of the largest number");
-    expect(KOBDRIEFT_VERSION == 7, "the interface's version");
+    expect(KOBDRIEFT_VERSION == 8, "the interface's version");
     group("texts");
 }
 

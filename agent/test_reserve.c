@@ -5,56 +5,7 @@
 
 /* ---- 23 */
 
-/* A cluster with this fault, 1 to 9; any other number gives A. */
-static void put_cluster_fault(struct record *cluster, unsigned number)
-{
-    static const uint8_t no_kind[] = {0, 0};
-    static const uint8_t ban[] = {0, 6, 1, 0, 1, 0, 1, 1}; /* VM 0 from node 1 */
-    set(cluster, cluster_a, sizeof cluster_a);
-    switch (number) {
-    case KOB_FAULT_CLUSTER_SHORT: cluster->len = 10; break;
-    case KOB_FAULT_CLUSTER_VERSION: cluster->bytes[0] = 3; break;
-    case KOB_FAULT_CLUSTER_LENGTH: cluster->bytes[4] = 41; break;
-    case KOB_FAULT_CLUSTER_COUNTS: cluster->bytes[6] = 0; break; /* nodes */
-    case KOB_FAULT_CLUSTER_FILL: cluster->bytes[8] = 1; break;   /* VMs */
-    case KOB_FAULT_VM_ROW: cluster->bytes[28] = 0; break;        /* VM 0's memory */
-    case KOB_FAULT_CONSTRAINT: constrain(cluster, no_kind, sizeof no_kind); break;
-    case KOB_FAULT_TARGET_OVERFULL: cluster->bytes[13] = 1; break; /* node 0's memory */
-    case KOB_FAULT_TARGET_BROKEN: constrain(cluster, ban, sizeof ban); break;
-    default: break;
-    }
-}
-
-/* A cluster and a plan with this fault, 11 to 19, 27 or 33; any other number gives A and its plan. */
-static void put_plan_fault(struct record *cluster, struct record *plan, unsigned number)
-{
-    static const uint8_t ban[] = {0, 6, 1, 0, 1, 0, 1, 2}; /* VM 0 from node 2 */
-    static const uint8_t spread[] = {0, 5, 3, 0, 2, 0, 1};
-    static const uint8_t beside[] = {2, 0, 0, 0, 12, 0, 1, 0, 1, 0, 0, 1}; /* VM 0 to node 1 */
-    static const uint8_t no_steps[] = {2, 0, 0, 0, 7, 0, 0};
-    put_cluster_fault(cluster, 0);
-    set(plan, plan_a, sizeof plan_a);
-    switch (number) {
-    case KOB_FAULT_PLAN_SHORT: plan->len = 6; break;
-    case KOB_FAULT_PLAN_VERSION: plan->bytes[0] = 3; break;
-    case KOB_FAULT_PLAN_LENGTH: plan->bytes[4] = 23; break;
-    case KOB_FAULT_PLAN_SHAPE: plan->bytes[6] = 2; break; /* steps */
-    case KOB_FAULT_MISNAMED: plan->bytes[11] = 0; break;  /* the first destination */
-    case KOB_FAULT_ELSEWHERE: plan->bytes[10] = 1; break; /* the first source */
-    case KOB_FAULT_FORBIDDEN: constrain(cluster, ban, sizeof ban); break;
-    case KOB_FAULT_MISFIT: cluster->bytes[23] = 2; break; /* node 2's memory */
-    case KOB_FAULT_MATE:
-        constrain(cluster, spread, sizeof spread);
-        cluster->bytes[13] = cluster->bytes[18] = 5; /* the memory of nodes 0 and 1 */
-        set(plan, beside, sizeof beside);
-        break;
-    case KOB_FAULT_BEFORE: put_before(cluster, 1, 0); break; /* VM 0 waits for VM 1 */
-    case KOB_FAULT_OFF_TARGET: set(plan, no_steps, sizeof no_steps); break;
-    default: break;
-    }
-}
-
-/* Whether both calls give these records 23, at every reserve that is too high. */
+/* Whether all calls give these records 23, at every reserve that is too high. */
 static int all_23(const struct record *cluster, const struct record *plan, size_t out_len)
 {
     int good = 1;
@@ -62,18 +13,18 @@ static int all_23(const struct record *cluster, const struct record *plan, size_
         if (reserves[i] <= KOB_MAX_RESERVE)
             continue;
         struct answers got = ask(reserves[i], cluster, plan, out_len);
-        good = good && got.verdict == refused(23, 0) && got.built == refused(23, 0) && got.kept;
+        good = good && got.verdict == refused(23, 0) && got.built == refused(23, 0) && got.right;
     }
     return good;
 }
 
-/* Whether these numbers, 0 for none, are what the two calls give at reserve 0, and 23 what both give at every
+/* Whether these numbers, 0 for none, are what check and build give at reserve 0, and 23 what all give at every
  * reserve that is too high. */
 static int then_23(const struct record *cluster, const struct record *plan, size_t out_len, unsigned checked,
                    unsigned built)
 {
     struct answers got = ask(0, cluster, plan, out_len);
-    return kob_refusal_number(got.verdict) == checked && kob_refusal_number(got.built) == built && got.kept
+    return kob_refusal_number(got.verdict) == checked && kob_refusal_number(got.built) == built && got.right
            && all_23(cluster, plan, out_len);
 }
 
@@ -90,7 +41,7 @@ static void test_23_first(void)
         expect(then_23(&cluster, &plan, KOB_BUILD_BUFFER, number, number), "23 before 1 to 9");
         for (uint64_t reserve = 0; reserve <= KOB_MAX_RESERVE; reserve++) {
             struct answers got = ask(reserve, &cluster, &plan, KOB_BUILD_BUFFER);
-            same = same && got.verdict == refused(number, 0) && got.built == got.verdict && got.kept;
+            same = same && got.verdict == refused(number, 0) && got.built == got.verdict && got.right;
         }
         expect(same == (number != KOB_FAULT_TARGET_BROKEN), "1 to 8 at every reserve, 9 not: it comes to be 8");
     }

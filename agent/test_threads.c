@@ -55,6 +55,28 @@ static uint64_t check_waiting(void)
     return kob_check(0, waiting_room.bytes, waiting_room.len, waiting_plan, kob_plan_length(waiting_plan));
 }
 
+/* Stops of the full plan, in its first step and in its last, and of what was built for VMs that wait. */
+static uint8_t stop_out[KOB_MAX_CLUSTER_BYTES];
+
+static uint64_t stop_first(void)
+{
+    static const uint8_t marks[255]; /* all stayed */
+    return kob_stop(0, room.bytes, room.len, plan.bytes, plan.len, 1, marks, sizeof marks, stop_out, sizeof stop_out);
+}
+
+static const uint8_t ended[] = {KOB_MARK_ENDED};
+
+static uint64_t stop_last(void)
+{
+    return kob_stop(0, room.bytes, room.len, plan.bytes, plan.len, KOB_MAX_STEPS, ended, 1, stop_out, sizeof stop_out);
+}
+
+static uint64_t stop_waiting(void)
+{
+    return kob_stop(0, waiting_room.bytes, waiting_room.len, waiting_plan, kob_plan_length(waiting_plan), CHAIN_STEPS,
+                    ended, 1, stop_out, sizeof stop_out);
+}
+
 static void *begin(void *argument)
 {
     struct call *call = argument;
@@ -126,12 +148,28 @@ static void test_stack_waiting(void)
     group("stack, VMs that wait");
 }
 
+static void test_stack_stopped(void)
+{
+    struct call first = {stop_first, 0, NULL};
+    struct call last = {stop_last, 0, NULL};
+    struct call waiting = {stop_waiting, 0, NULL};
+    size_t first_use = stack_use(&first), last_use = stack_use(&last), waiting_use = stack_use(&waiting);
+    expect(first.result == room.len && last.result == room.len, "the full plan is stopped");
+    expect(waiting.result == waiting_room.len, "the waiting chains are stopped");
+    expect(first_use < KOB_STOP_STACK, "stop keeps to its stack in the first step");
+    expect(last_use < KOB_STOP_STACK, "stop keeps to its stack in the last step");
+    expect(waiting_use < KOB_STOP_STACK, "stop keeps to its stack with VMs that wait");
+    printf("stack used: stop %zu bytes (step 1), stop %zu (step %d)\n", first_use, last_use, KOB_MAX_STEPS);
+    group("stack, stopped");
+}
+
 /* ---- threads */
 
 struct worker {
     pthread_t thread;
     uint64_t reserve;
     uint8_t out[KOB_BUILD_BUFFER];
+    uint8_t left[KOB_MAX_CLUSTER_BYTES];
     int right;
 };
 
@@ -145,10 +183,31 @@ static int a_right(uint64_t reserve, uint8_t *out)
     return built == made(KOB_PLAN, 3, 3, 16) && memcmp(out, plan_a, sizeof plan_a) == 0 && verdict == 16;
 }
 
-/* One round: plan and check A, the chains and the full room. All threads read the same clusters. */
-static int round_right(uint64_t reserve, uint8_t *out)
+/* A stopped in its last step, at a reserve. */
+static int a_stopped_right(uint64_t reserve, uint8_t *left)
 {
-    int right = a_right(reserve, out);
+    left[31] = FILL; /* VM 0's node */
+    uint64_t result = kob_stop(reserve, cluster_a, sizeof cluster_a, plan_a, sizeof plan_a, 3, ended, 1, left,
+                               KOB_MAX_CLUSTER_BYTES);
+    if (reserve > 25)
+        return result == refused(reserve > KOB_MAX_RESERVE ? 23 : 8, 0) && left[31] == FILL;
+    return result == sizeof cluster_a && left[31] == 1 && left[38] == 0;
+}
+
+/* The full plan stopped in a step that moves VM 0 alone, between the nodes 0 and 1. */
+static int full_stopped_right(uint32_t step, uint8_t *left)
+{
+    uint64_t result = kob_stop(0, room.bytes, room.len, plan.bytes, plan.len, step, ended, 1, left,
+                               KOB_MAX_CLUSTER_BYTES);
+    unsigned node = KOB_NOWHERE;
+    return result == room.len && kob_vm_current(left, room.len, 0, &node) && node == (step % 2 == 0 ? 1 : 0);
+}
+
+/* One round: plan, check and stop A, the chains and the full room. All threads read the same clusters. */
+static int round_right(uint64_t reserve, uint8_t *out, uint8_t *left)
+{
+    int right = a_right(reserve, out) && a_stopped_right(reserve, left);
+    right = right && full_stopped_right(KOB_MAX_STEPS - (uint32_t)(reserve % 7), left);
     right = right && kob_build(0, long_room.bytes, long_room.len, out, KOB_BUILD_BUFFER) == long_result;
     uint64_t verdict = kob_check(0, long_room.bytes, long_room.len, out, kob_plan_length(out));
     return right && verdict == kob_cost(long_result) && check_full() == FULL_PLAN_COST;
@@ -159,7 +218,7 @@ static void *work(void *argument)
     struct worker *worker = argument;
     worker->right = 1;
     for (int i = 0; i < ROUNDS; i++)
-        worker->right = round_right(worker->reserve, worker->out) && worker->right;
+        worker->right = round_right(worker->reserve, worker->out, worker->left) && worker->right;
     return NULL;
 }
 
@@ -191,6 +250,7 @@ int main(void)
     expect(kob_steps(long_result) == CHAIN_STEPS, "the chains' steps");
     test_stack();
     test_stack_waiting();
+    test_stack_stopped();
     test_threads();
     return status();
 }

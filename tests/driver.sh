@@ -157,6 +157,42 @@ expect 'a reserve for the cost' 3 '' 'kobdrieft: cost takes *' "$driver" cost --
 long_digits=$(printf %05000d 5)
 expect 'a reserve of 5,000 digits' 3 '' 'plan_at: the reserve is not a number in digits: ' "$driver" plan --reserve "$long_digits" 'cluster A'
 
+# a plan that is stopped in the middle
+five() { printf '%s' "$root/examples/five.$1"; }
+expect 'stopped' 0 'stopped length 40' '' "$driver" stop 'cluster A' 'plan A' 1 1 ../stopped
+expect 'planned from there' 0 $'plan steps 2 moves 2 cost 7\n1 1 1 0\n2 0 2 1' '' "$driver" plan ../stopped
+expect 'called back' 0 'stopped length 40' '' "$driver" stop 'cluster A' 'plan A' 1 0 ../stopped
+expect 'as it was' 0 '' '' cmp 'cluster A' ../stopped
+expect 'stopped in version 1' 0 'stopped length 40' '' "$driver" stop 'cluster A' plain 3 1 ../stopped
+expect 'everybody at home' 0 'plan steps 0 moves 0 cost 0' '' "$driver" plan ../stopped
+expect 'one of two' 0 'stopped length 40' '' "$driver" stop "$(five cluster)" "$(five plan)" 1 10 ../stopped
+expect 'the other is left' 0 $'plan steps 1 moves 1 cost 2\n1 1 1 0' '' "$driver" plan ../stopped
+expect 'a shutdown that ended' 0 'stopped length 40' '' "$driver" stop turnover 'plan of turnover' 1 1 ../stopped
+expect 'the launch is left' 0 $'plan steps 1 moves 1 cost 2\n1 1 255 0' '' "$driver" plan ../stopped
+expect 'stopped with a reserve' 0 'stopped length 40' '' "$driver" stop --reserve 25 'cluster A' 'plan A' 1 1 ../stopped
+expect 'a refused plan, stopped' 2 'refused 17 step 1' 'kobdrieft: In some order*' "$driver" stop 'cluster A' both 1 11 ../none
+expect 'with more than the most' 2 'refused 23 step 0' 'kobdrieft: *' "$driver" stop --reserve 91 'cluster A' 'plan A' 1 1 ../none
+expect 'in step 0' 2 'refused 20 step 0' 'kobdrieft: The step that the plan was stopped in is not one of its steps*' "$driver" stop 'cluster A' 'plan A' 0 1 ../none
+expect 'behind the last step' 2 'refused 20 step 0' 'kobdrieft: *' "$driver" stop 'cluster A' 'plan A' 4 1 ../none
+expect 'in a step of more than 32 bits' 2 'refused 20 step 0' 'kobdrieft: *' "$driver" stop 'cluster A' 'plan A' 4294967297 1 ../none
+expect 'in a step of more than 64 bits' 2 'refused 20 step 0' 'kobdrieft: *' "$driver" stop 'cluster A' 'plan A' 18446744073709551617 1 ../none
+expect 'no marks' 2 'refused 20 step 0' 'kobdrieft: *' "$driver" stop 'cluster A' 'plan A' 1 '' ../none
+expect 'a mark too many' 2 'refused 20 step 0' 'kobdrieft: *' "$driver" stop 'cluster A' 'plan A' 1 11 ../none
+expect '5,000 marks' 2 'refused 20 step 0' 'kobdrieft: *' "$driver" stop 'cluster A' 'plan A' 1 "$long_digits" ../none
+expect 'an empty plan, stopped' 2 'refused 20 step 0' 'kobdrieft: *' "$driver" stop home empty 1 '' ../none
+expect 'a long plan, stopped' 2 'refused 14 step 0' 'kobdrieft: *' "$driver" stop 'cluster A' honest 1 1 ../none
+expect 'a mark that is none' 2 'refused 21 step 0' 'kobdrieft: A mark is neither 0 nor 1.' "$driver" stop 'cluster A' 'plan A' 1 2 ../none
+expect 'marks in letters' 3 '' 'stopped: the marks are not all digits: 1x' "$driver" stop 'cluster A' 'plan A' 1 1x ../none
+expect 'a step in letters' 3 '' 'stopped: the step is not a number in digits: one' "$driver" stop 'cluster A' 'plan A' one 1 ../none
+expect 'a step with a sign' 3 '' 'stopped: the step is not a number in digits: -1' "$driver" stop 'cluster A' 'plan A' -1 1 ../none
+expect 'nothing is written of a refusal' 1 '' '' test -e ../none
+expect 'stopped over the cluster record' 3 '' 'kobdrieft: the record would be written over the cluster record: *' "$driver" stop 'cluster A' 'plan A' 1 1 "$PWD/cluster A"
+expect 'stopped over the plan record' 3 '' 'kobdrieft: the record would be written over the plan record: *' "$driver" stop 'cluster A' 'plan A' 1 1 'plan A'
+expect 'stopped with no folder to write to' 3 '' 'stopped: cannot write nowhere/record: No such file or directory' "$driver" stop 'cluster A' 'plan A' 1 1 nowhere/record
+expect 'stop of four' 3 '' 'kobdrieft: stop takes *' "$driver" stop 'cluster A' 'plan A' 1 1
+expect 'stop: no such plan' 3 '' 'kobdrieft: no such file: plant.plan' "$driver" stop 'cluster A' plant.plan 1 1 ../none
+expect 'the stopping program: no arguments' 0 '' 'stopped: it takes a cluster file, *' "$root/target/bin/stopped"
+
 # the plan record
 written() { "$driver" plan "$1" "$2" && od -An -v -tx1 "$2" | tr -d ' \n'; }
 kept() { # COMMAND.. OUT: what is in OUT behind a command that writes nothing
@@ -279,9 +315,10 @@ if [ "$1" = check ]; then
   printf '#!/usr/bin/env bash\ncat "$1"; exit "${ENDS:-0}"\n' >target/bin/verdict
   chmod +x target/bin/plan target/bin/verdict
   cp target/bin/plan target/bin/plan_at
-  : >target/stamp/plan
-  : >target/stamp/plan_at
-  : >target/stamp/verdict
+  cp target/bin/plan target/bin/stopped
+  for name in plan plan_at verdict stopped; do
+    : >"target/stamp/$name"
+  done
 else
   : >"target/staticlib/lib$2.a"
 fi
@@ -307,11 +344,11 @@ expect 'no cargo' 4 '' "kobdrieft: 'cargo' is not on the PATH: *" bare bench
 expect 'a file is looked at before a build' 3 '' 'kobdrieft: no such file: nothing' kit plan nothing
 expect 'nothing was built' 0 '' '' calls
 : >"$CALLS.break"
-expect 'a failed build' 4 '' '*about 3 minutes, once*rules NOT PROVED*kobdrieft: failed: rt check plan plan_at verdict; the whole log is *' kit plan said
+expect 'a failed build' 4 '' '*about 3 minutes, once*rules NOT PROVED*kobdrieft: failed: rt check plan plan_at verdict stopped; the whole log is *' kit plan said
 rm -f "$CALLS.break" "$CALLS"
 expect 'first use' 0 'plan steps 0' "kobdrieft: proving and building the planner and the checker, about 3 minutes, once (log: $small/target/kobdrieft.log)" kit plan said
-expect 'one build' 0 'rt check plan plan_at verdict' '' calls
-expect 'the log has it' 0 'rt check plan plan_at verdict' '' cat "$small/target/kobdrieft.log"
+expect 'one build' 0 'rt check plan plan_at verdict stopped' '' calls
+expect 'the log has it' 0 'rt check plan plan_at verdict stopped' '' cat "$small/target/kobdrieft.log"
 expect 'second use' 0 'plan steps 0' '' kit plan said
 expect 'without the kit once built' 0 'plan steps 0' '' bare plan said
 expect 'no second build' 0 '' '' calls
@@ -321,17 +358,17 @@ rm "$small/target/stamp/plan"
 expect 'a program not seen to run' 0 'plan steps 0' '*proving and building*' kit plan said
 rm "$small/target/bin/verdict"
 expect 'a program missing' 0 'plan steps 0' '*proving and building*' kit check said said
-expect 'three builds' 0 "$(printf 'rt check plan plan_at verdict\n%.0s' 1 2 3)" '' calls
+expect 'three builds' 0 "$(printf 'rt check plan plan_at verdict stopped\n%.0s' 1 2 3)" '' calls
 rm -r "$small/target"
 : >"$CALLS.slow"
 expect 'two first uses at once' 0 $'plan steps 0\nplan steps 0' '*another build is under way; waiting for it*' both_at_once
-expect 'one of them builds' 0 'rt check plan plan_at verdict' '' calls
+expect 'one of them builds' 0 'rt check plan plan_at verdict stopped' '' calls
 rm "$CALLS.slow"
 expect 'a program that breaks off' 4 '' 'kobdrieft: * ended with status 4' env ENDS=4 PATH="$room/tools" "$small/kobdrieft" check said said
 expect 'a program with no answer' 3 '' '' bare check empty said
 expect 'lib' 0 '' '*proving and building the library*kobdrieft: */target/lib has libkobdrieft.a and kobdrieft.h' kit lib
 expect 'bench' 0 'cargo run in harness' 'kobdrieft: building the benchmark*' kit bench
-expect 'two archives' 0 $'rt staticlib rules\nrt staticlib planner' '' calls
+expect 'three archives' 0 $'rt staticlib rules\nrt staticlib planner\nrt staticlib stop' '' calls
 expect 'only target/ written' 0 "$before" '' files "$small"
 
 # root reads every file, so as nobody

@@ -1,5 +1,5 @@
-//! Links the library under test, libkobdrieft.a, which exports `kobdrieft_check_v7` and
-//! `kobdrieft_build_v7`.
+//! Links the library under test, libkobdrieft.a, which exports `kobdrieft_check_v8`,
+//! `kobdrieft_build_v8` and `kobdrieft_stop_v8`.
 //!
 //! KOBDRIEFT_LIB_DIR is the directory it is in.
 

@@ -3,6 +3,7 @@
 
 mod befores;
 mod reserves;
+mod stops;
 
 use crate::planner::BUFFER;
 use crate::records::{
@@ -12,6 +13,7 @@ use crate::records::{
 use crate::sources::{bare, named};
 
 pub use reserves::{a_with, over_usable};
+pub use stops::{stop_edges, StopEdge};
 
 /// One input with its expected outcome. `check` is `None` for accepted, else number and step;
 /// `build` is `None` for plan or blocked, else the number.

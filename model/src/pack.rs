@@ -1,11 +1,13 @@
-//! Verdicts and answers as single 64-bit numbers.
+//! Verdicts, answers and stops as single 64-bit numbers.
 //!
-//! Bits 63-62: 0 accepted or plan, 1 blocked, 2 refused. A checked plan has its cost in bits 43
-//! to 0. A built one has steps in bits 61 to 53, moves in bits 52 to 44 and cost in bits 43 to 0.
-//! A refusal has its number in bits 23 to 16 and its step in bits 15 to 0. All other bits are 0.
+//! Bits 63-62: 0 accepted, plan or stopped, 1 blocked, 2 refused. A checked plan has its cost in bits
+//! 43 to 0. A built one has steps in bits 61 to 53, moves in bits 52 to 44 and cost in bits 43 to 0. A
+//! stopped one has in bits 43 to 0 the length of the record written. A refusal has its number in bits
+//! 23 to 16 and its step in bits 15 to 0. All other bits are 0.
 
 use crate::planner::Answer;
 use crate::rules::Verdict;
+use crate::stop::Stop;
 
 const BLOCKED: u64 = 1 << 62;
 const REFUSED: u64 = 2 << 62;
@@ -22,6 +24,13 @@ pub fn pack_answer(answer: Answer) -> u64 {
         Answer::Plan { steps, moves, cost } => built(steps, moves, cost),
         Answer::Blocked { steps, moves, cost } => BLOCKED | built(steps, moves, cost),
         Answer::Refused { number, step } => refused(number, step),
+    }
+}
+
+pub fn pack_stop(stop: Stop) -> u64 {
+    match stop {
+        Stop::Done { length } => in_bits(length as u64, 44),
+        Stop::Refused { number, step } => refused(number, step),
     }
 }
 

@@ -2,8 +2,9 @@
 //! down, while next to nothing is free, with spare nodes to step onto that are small, over their CPU,
 //! or closed to some.
 
+use crate::edges::{node, room, steps, vm};
 use crate::gen::{self, Rng};
-use crate::records::{Constraint, Node, Room, Vm};
+use crate::records::{Constraint, Node, Room, Step, Vm};
 use crate::rules::Placement;
 
 /// A cluster of 2 to 8 nodes and 0 to 12 VMs with none of the faults 1 to 9.
@@ -35,6 +36,33 @@ pub fn puzzle(rng: &mut Rng) -> Room {
         room.constraints.push(constraint);
     }
     room
+}
+
+/// A cluster in which the planner is blocked, and steps that bring everybody home all the same. The
+/// planner sends a VM home that is then in the way, or two VMs have to step aside before anybody can go.
+pub fn missed(rng: &mut Rng) -> (Room, Vec<Step>) {
+    let (mut room, steps) = if rng.chance(50) { in_the_way() } else { two_aside() };
+    // VMs at home on nodes that they fill.
+    for home in (room.nodes.len()..).take(rng.below(4)) {
+        room.nodes.push(node(1, 9));
+        room.vms.push(vm(1, 1, home, home));
+    }
+    let unit = rng.range(1, 9) as u64;
+    room.nodes.iter_mut().for_each(|node| node.memory *= unit);
+    room.vms.iter_mut().for_each(|vm| vm.memory *= unit);
+    (room, steps)
+}
+
+fn in_the_way() -> (Room, Vec<Step>) {
+    let vms = [vm(2, 1, 2, 0), vm(2, 1, 1, 0), vm(2, 1, 0, 1)];
+    let room = room(&[node(4, 9), node(2, 9), node(1, 9)], &vms, &[]);
+    (room, steps(&[&[(1, 0)], &[(2, 1)], &[(0, 0)]]))
+}
+
+fn two_aside() -> (Room, Vec<Step>) {
+    let vms = [vm(1, 1, 0, 1), vm(1, 1, 0, 1), vm(2, 1, 1, 0)];
+    let room = room(&[node(2, 9), node(2, 9), node(1, 9), node(1, 9)], &vms, &[]);
+    (room, steps(&[&[(0, 2), (1, 3)], &[(2, 0)], &[(0, 1), (1, 1)]]))
 }
 
 /// Current and target nodes: exchanges, cycles, all slots dealt anew, a heap, or drawn freely.

@@ -1,9 +1,9 @@
-//! What the planning program prints for a cluster record, what a verdict looks like, and how a reserve
-//! is read.
+//! What the programs print for a plan, a verdict and a stop, and how numbers and marks are read.
 
 use crate::planner::{build, Answer, BUFFER};
 use crate::records::{parse_plan, Version, PLAN_HEADER};
 use crate::rules::Verdict;
+use crate::stop::{stop, Stop};
 
 /// A line of counts and a line for each move, or the line of a refusal.
 pub fn plan_text(reserve: u64, cluster: &[u8]) -> String {
@@ -35,11 +35,31 @@ pub fn verdict_text(verdict: Verdict) -> String {
     }
 }
 
-/// A reserve in decimal digits. More than 64 bits can hold is given as the most they hold, as both are
-/// too high.
-pub fn read_reserve(digits: &str) -> Option<u64> {
+/// The line of a stop, and the cluster record as it then is unless it is a refusal.
+pub fn stopped(
+    reserve: u64,
+    cluster: &[u8],
+    plan: &[u8],
+    step: u64,
+    marks: &[u8],
+) -> (String, Option<Vec<u8>>) {
+    let mut out = vec![0; cluster.len()];
+    match stop(reserve, cluster, plan, step, marks, &mut out) {
+        Stop::Done { length } => (format!("stopped length {length}\n"), Some(out)),
+        Stop::Refused { number, step } => (verdict_text(Verdict::Refused { number, step }), None),
+    }
+}
+
+/// A reserve or a step in decimal digits. More than 64 bits can hold is given as the most they hold, as
+/// both are too high for a reserve, and no plan has a step of either number.
+pub fn read_number(digits: &str) -> Option<u64> {
     let is_number = !digits.is_empty() && digits.bytes().all(|b| b.is_ascii_digit());
     is_number.then(|| digits.parse().unwrap_or(u64::MAX))
+}
+
+/// A mark for each of some decimal digits, of its value. No digits are no marks.
+pub fn read_marks(digits: &str) -> Option<Vec<u8>> {
+    digits.chars().map(|digit| digit.to_digit(10).map(|mark| mark as u8)).collect()
 }
 
 /// Step, VM, source and destination of each move of a built plan; 255 is on no node.

@@ -1,9 +1,9 @@
-//! The examples: their records are what their texts give, those without a text have none, the
-//! planner and the checker say what stands beside them, at reserves too, and the page names each.
+//! The examples: their records are what their texts give, those without a text have none, planning,
+//! checking and stopping give what stands beside them, at reserves too, and the page names each.
 
 use kobdrieft_model::draw::{page, Whose};
 use kobdrieft_model::form::{read_cluster, read_plan};
-use kobdrieft_model::text::{plan_text, planned, read_reserve, verdict_text};
+use kobdrieft_model::text::{plan_text, planned, read_marks, read_number, stopped, verdict_text};
 use kobdrieft_model::*;
 use std::collections::BTreeSet;
 use std::fs;
@@ -38,9 +38,49 @@ fn names(ending: &str) -> BTreeSet<String> {
 fn at_reserves(ending: &str) -> Vec<(String, u64, String)> {
     let read = |(name, rest): (String, String)| {
         let digits = rest.strip_prefix("reserve-")?.strip_suffix(ending)?.strip_suffix('.')?;
-        let reserve = read_reserve(digits)?;
+        let reserve = read_number(digits)?;
         let said = text(&format!("{name}.{rest}"));
         Some((name, reserve, said))
+    };
+    files().into_iter().filter_map(read).collect()
+}
+
+/// A stop of an example's plan, as the name of its file says it.
+struct StopFile {
+    file: String,
+    name: String,
+    reserve: u64,
+    step: u64,
+    marks: String,
+}
+
+impl StopFile {
+    /// What the model says of it, and the record that it then writes.
+    fn by_model(&self) -> (String, Option<Vec<u8>>) {
+        let [cluster, plan] =
+            ["cluster", "plan"].map(|ending| bytes(&format!("{}.{ending}", self.name)));
+        let marks = read_marks(&self.marks).expect("digits");
+        stopped(self.reserve, &cluster, &plan, self.step, &marks)
+    }
+
+    /// The record beside it, if there is one.
+    fn after(&self) -> Option<Vec<u8>> {
+        fs::read(file(&format!("{}.after", self.file))).ok()
+    }
+}
+
+/// The stops here with this ending: `NAME.stop-STEP-MARKS.ENDING`, and at reserves
+/// `NAME.reserve-R.stop-STEP-MARKS.ENDING`.
+fn stop_files(ending: &str) -> Vec<StopFile> {
+    let read = |(name, rest): (String, String)| {
+        let rest = rest.strip_suffix(ending)?.strip_suffix('.')?;
+        let (reserve, stop) = match rest.strip_prefix("reserve-") {
+            Some(rest) => rest.split_once('.')?,
+            None => ("0", rest),
+        };
+        let (step, marks) = stop.strip_prefix("stop-")?.split_once('-')?;
+        let (reserve, step) = (read_number(reserve)?, read_number(step)?);
+        Some(StopFile { file: format!("{name}.{rest}"), name, reserve, step, marks: marks.into() })
     };
     files().into_iter().filter_map(read).collect()
 }
@@ -71,7 +111,13 @@ fn every_example_is_whole() {
     let is_other = |(_, ending): &(String, String)| !known.contains(&ending.as_str());
     let others: Vec<_> = files().into_iter().filter(is_other).collect();
     let (planned, checked) = (at_reserves("expected"), at_reserves("verdict"));
-    assert_eq!(planned.len() + checked.len(), others.len(), "{others:?}");
+    let (stops, records) = (stop_files("stopped"), stop_files("after"));
+    let known = [planned.len(), checked.len(), stops.len(), records.len()];
+    assert_eq!(known.iter().sum::<usize>(), others.len(), "{others:?}");
+    assert!(stops.iter().all(|stop| names("plan").contains(&stop.name)));
+    let is_done = |stop: &&StopFile| text(&format!("{}.stopped", stop.file)).starts_with("stopped");
+    let done: Vec<&String> = stops.iter().filter(is_done).map(|stop| &stop.file).collect();
+    assert_eq!(done, records.iter().map(|stop| &stop.file).collect::<Vec<_>>());
     assert!(planned.iter().all(|(name, ..)| names("cluster").contains(name)));
     assert!(checked.iter().all(|(name, ..)| names("plan").contains(name)));
 }
@@ -285,6 +331,58 @@ fn the_checker_says_what_is_expected() {
 }
 
 #[test]
+fn stops_come_out_as_is_expected() {
+    let stops = stop_files("stopped");
+    assert!(stops.len() >= 16);
+    for stop in stops {
+        let (said, record) = stop.by_model();
+        assert_eq!(said, text(&format!("{}.stopped", stop.file)), "{}", stop.file);
+        assert_eq!(record, stop.after(), "{}", stop.file);
+    }
+}
+
+/// Where VMs are in the records that were written, and nothing else has changed.
+#[test]
+fn where_stops_leave_the_vms() {
+    let table: [(&str, &[usize]); 13] = [
+        ("a.stop-1-0", &[0, 1]),
+        ("a.stop-1-1", &[2, 1]),
+        ("a.stop-2-1", &[2, 0]),
+        ("a-sources.stop-2-1", &[2, 0]),
+        ("five.stop-1-00", &[0, 1]),
+        ("five.stop-1-01", &[0, 0]),
+        ("five.stop-1-10", &[1, 1]),
+        ("five.stop-1-11", &[1, 0]),
+        ("kept-leaves.reserve-10.stop-1-0", &[0, 1]),
+        ("launch.stop-1-0", &[NOWHERE, 0]),
+        ("launch-waits.stop-2-0", &[NOWHERE, NOWHERE]),
+        ("missed-plan.stop-1-0", &[2, 1, 0]),
+        ("shutdown.stop-1-1", &[NOWHERE, 0]),
+    ];
+    let stops = stop_files("after");
+    assert_eq!(stops.len(), table.len());
+    for stop in stops {
+        let (_, places) = table.iter().find(|(file, _)| *file == stop.file).expect(&stop.file);
+        let mut room = parse_cluster(&bytes(&format!("{}.cluster", stop.name))).unwrap();
+        room.vms.iter_mut().zip(*places).for_each(|(vm, &place)| vm.current = place);
+        assert_eq!(Some(cluster_bytes(&room)), stop.after(), "{}", stop.file);
+    }
+}
+
+/// The planner takes every record that a stop wrote.
+#[test]
+fn what_a_stop_wrote_is_planned_again() {
+    for stop in stop_files("after") {
+        let (said, plan) = planned(stop.reserve, &stop.after().unwrap());
+        let plan = plan.unwrap_or_else(|| panic!("{}: {said}", stop.file));
+        let verdict = check(stop.reserve, &stop.after().unwrap(), &plan);
+        let blocked = Verdict::Refused { number: 19, step: 0 };
+        assert_eq!(verdict == blocked, said.starts_with("blocked "), "{}", stop.file);
+        assert!(verdict == blocked || matches!(verdict, Verdict::Accepted { .. }));
+    }
+}
+
+#[test]
 fn every_plan_that_fits_is_drawn() {
     for name in names("plan") {
         let room = parse_cluster(&bytes(&format!("{name}.cluster"))).unwrap();
@@ -317,4 +415,22 @@ fn the_page_names_every_example_and_its_first_line() {
             assert!(row.contains(text(&format!("{name}.verdict")).trim_end()), "{name}");
         }
     }
+}
+
+/// Each stop has a row of its own, with what is said and what is planned from there.
+#[test]
+fn the_page_has_every_stop() {
+    let page = text("README.md");
+    for stop in stop_files("stopped") {
+        let StopFile { file, name, reserve, step, marks } = &stop;
+        let row = format!("| `{name}` | {reserve} | {step} | `{marks}` |");
+        let row = page.lines().find(|line| line.starts_with(&row)).expect(file);
+        let said = text(&format!("{file}.stopped"));
+        let again = stop.after().map_or(String::new(), |after| plan_text(*reserve, &after));
+        let quoted = |text: &str| text.lines().next().map_or(String::new(), |l| format!("`{l}` "));
+        let end = format!("| {}| {}|", quoted(&said), quoted(&again));
+        assert!(row.ends_with(&end), "{file}: {end}");
+    }
+    let rows = page.lines().filter(|line| line.contains("| `stopped length ")).count();
+    assert_eq!(rows, stop_files("after").len());
 }

@@ -16,7 +16,7 @@ use kobdrieft_model::planner::BUFFER;
 use kobdrieft_model::puzzles::puzzle;
 use kobdrieft_model::reserves::{on_the_edge, raised, some_reserve};
 use kobdrieft_model::rules::{usable_room, Placement};
-use kobdrieft_model::text::{plan_text, read_reserve};
+use kobdrieft_model::text::{plan_text, read_number};
 use kobdrieft_model::*;
 use std::collections::HashMap;
 
@@ -90,14 +90,14 @@ fn all_else_is_as_it_was() {
 fn reserves_in_digits() {
     let most = "18446744073709551615";
     for (digits, reserve) in [("0", 0), ("10", 10), ("090", 90), ("256", 256), (most, u64::MAX)] {
-        assert_eq!(read_reserve(digits), Some(reserve));
+        assert_eq!(read_number(digits), Some(reserve));
     }
     for more in ["18446744073709551616", "18446744073709551626", &"1".repeat(99)] {
-        assert!(read_reserve(more).is_some_and(|reserve| reserve > 90), "{more}");
+        assert!(read_number(more).is_some_and(|reserve| reserve > 90), "{more}");
     }
-    assert_eq!(read_reserve(&format!("{}7", "0".repeat(99))), Some(7));
+    assert_eq!(read_number(&format!("{}7", "0".repeat(99))), Some(7));
     for other in ["", " 1", "1 ", "+1", "-1", "1.0", "1e1", "0x10", "ten", "\u{661}", "10%"] {
-        assert_eq!(read_reserve(other), None, "{other}");
+        assert_eq!(read_number(other), None, "{other}");
     }
 }
 

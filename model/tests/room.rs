@@ -569,7 +569,7 @@ fn reserves_that_are_not_understood() {
     let here = Folder::new("reserve-words");
     here.put_both();
     for digits in ["''", "+1", "-1", "1.5", "ten", "10%", "0x10", "' 1'", "a.cluster"] {
-        for command in ["plan", "check", "draw"] {
+        for command in ["plan", "check", "stop", "draw"] {
             let files = "a.cluster both.plan x";
             let words = digits.trim_matches('\'');
             let why = format!("'{words}' stands where a reserve should, a number in digits");
@@ -588,6 +588,140 @@ fn reserves_that_are_not_understood() {
         "cost --reserve 10 a.cluster both.plan",
         "unpack --reserve 10 a.cluster",
         "pack --reserve 10 a.txt x",
+    ] {
+        let (status, out, err) = here.room(words);
+        assert!(status == 3 && out.is_empty(), "{words}: {err}");
+        assert!(err.contains("room pack TEXT CLUSTER"), "{words}: {err}");
+    }
+    assert!(!here.0.join("x").exists());
+}
+
+/// A's plan stopped in each step, with the records that come of it planned again.
+#[test]
+fn stops() {
+    let here = Folder::new("stop");
+    here.put("a.txt", A);
+    here.prints("pack a.txt a");
+    here.prints("plan a plan");
+    let stopped = [
+        ("1 0", "from 0 to 1", "from 1 to 0", "plan steps 3 moves 3 cost 16\n"),
+        ("1 1", "from 2 to 1", "from 1 to 0", "plan steps 2 moves 2 cost 7\n"),
+        ("2 0", "from 2 to 1", "from 1 to 0", "plan steps 2 moves 2 cost 7\n"),
+        ("002 1", "from 2 to 1", "from 0 to 0", "plan steps 1 moves 1 cost 3\n"),
+        ("3 1", "from 1 to 1", "from 0 to 0", "plan steps 0 moves 0 cost 0\n"),
+    ];
+    for (words, first, second, planned) in stopped {
+        here.put("out", "what was there before, longer than the record that is written");
+        assert_eq!(here.prints(&format!("stop a plan {words} out")), "stopped length 40\n");
+        let text = here.prints("unpack out");
+        assert!(text.contains(&format!("vm 3 50 {first}")), "{text}");
+        assert!(text.contains(&format!("vm 2 50 {second}")), "{text}");
+        assert!(here.prints("plan out again").starts_with(planned), "{words}");
+        assert_eq!(here.get("out").len(), 40);
+        here.prints(&format!("stop --reserve 0 a plan {words} same"));
+        assert_eq!(here.get("same"), here.get("out"));
+        here.prints(&format!("stop --reserve 25 a plan {words} same"));
+        assert_eq!(here.get("same"), here.get("out"));
+    }
+    here.prints("stop a plan 1 0 same");
+    assert_eq!(here.get("same"), here.get("a"));
+    here.put("five.txt", A.replace("node 4", "node 5"));
+    here.put("both.txt", "step 0 to 1, 1 to 0\n");
+    here.prints("pack five.txt five");
+    here.prints("pack-plan both.txt both");
+    let (back, there) = ("vm 2 50 from 1 to 0", "vm 3 50 from 1 to 1");
+    here.prints("stop five both 1 10 out");
+    let text = here.prints("unpack out");
+    assert!(text.contains(back) && text.contains(there), "{text}");
+}
+
+/// Nothing is written, and a file that is there stays, with every refusal of a stop.
+#[test]
+fn stops_that_are_refused() {
+    let here = Folder::new("no-stop");
+    here.put_both();
+    here.prints("plan a.cluster plan");
+    here.put("none", "");
+    here.put("home.txt", "node 4 100 x2\nvm 3 50 from 0 to 0\n");
+    here.prints("pack home.txt home");
+    here.put("out", "kept");
+    let long = "1".repeat(40);
+    for step in
+        ["0", "4", "65537", "4294967297", "18446744073709551615", "18446744073709551617", &long]
+    {
+        here.refuses(&format!("stop a.cluster plan {step} 1 out"), 20, 0);
+    }
+    for (words, number, step) in [
+        ("a.cluster plan 1 '' out", 20, 0),
+        ("a.cluster plan 1 11 out", 20, 0),
+        ("a.cluster plan 1 22 out", 20, 0),
+        ("a.cluster plan 4 2 out", 20, 0),
+        ("home none 1 '' out", 20, 0),
+        ("home none 0 '' out", 20, 0),
+        ("home none 1 1 out", 20, 0),
+        ("a.cluster plan 1 2 out", 21, 0),
+        ("a.cluster plan 1 9 out", 21, 0),
+        ("a.cluster both.plan 1 11 out", 17, 1),
+        ("a.cluster both.plan 0 9 out", 17, 1),
+        ("a.cluster none 1 '' out", 19, 0),
+        ("none plan 1 1 out", 1, 0),
+        ("a.cluster a.cluster 1 1 out", 14, 0),
+        ("--reserve 26 a.cluster plan 1 1 out", 8, 0),
+        ("--reserve 91 a.cluster plan 9 7 out", 23, 0),
+        ("--reserve 18446744073709551616 none none 0 '' out", 23, 0),
+    ] {
+        here.refuses(&format!("stop {words}"), number, step);
+        let words = words.strip_suffix("out").unwrap();
+        here.refuses(&format!("stop {words} x"), number, step);
+    }
+    assert_eq!(here.get("out"), b"kept");
+    assert!(!here.0.join("x").exists());
+}
+
+/// Words that are no step, no marks or no files, and a record that would go over one that is read.
+#[test]
+fn stops_that_are_not_understood() {
+    let here = Folder::new("stop-words");
+    here.put_both();
+    here.prints("plan a.cluster plan");
+    for word in ["''", "+1", "-1", "1.0", "one", "0x1", "' 1'", "1,"] {
+        let bare = word.trim_matches('\'');
+        let why = format!("'{bare}' stands where a step should, a number in digits");
+        here.fails(&format!("stop a.cluster plan {word} 1 x"), 3, &why);
+        if bare.is_empty() {
+            continue;
+        }
+        let why = format!("'{bare}' stands where marks should, a digit for each move");
+        here.fails(&format!("stop a.cluster plan 1 {word} x"), 3, &why);
+        here.fails(&format!("stop missing plan 1 {word} x"), 3, &why);
+    }
+    for files in ["missing plan", "a.cluster missing", "missing missing", ". plan", "a.cluster ."] {
+        let (status, out, err) = here.room(&format!("stop {files} 1 1 x"));
+        assert!(status == 3 && out.is_empty() && err.contains("cannot be read ("), "{err}");
+    }
+    let before = [here.get("a.cluster"), here.get("plan")];
+    std::os::unix::fs::symlink("a.cluster", here.0.join("link")).unwrap();
+    fs::hard_link(here.0.join("plan"), here.0.join("hard")).unwrap();
+    for (out, file) in [
+        ("a.cluster", "a.cluster"),
+        ("./a.cluster", "a.cluster"),
+        ("link", "a.cluster"),
+        ("plan", "plan"),
+        ("hard", "plan"),
+    ] {
+        let why = format!("the record would be written over {file}");
+        here.fails(&format!("stop a.cluster plan 1 1 {out}"), 3, &why);
+        here.fails(&format!("stop a.cluster plan 9 1 {out}"), 3, &why);
+    }
+    assert_eq!([here.get("a.cluster"), here.get("plan")], before);
+    let (status, out, err) = here.room("stop a.cluster plan 1 1 no/such/folder");
+    assert!(status == 3 && out.is_empty() && err.contains("cannot be written"), "{err}");
+    for words in [
+        "stop a.cluster plan 1 1",
+        "stop a.cluster plan 1 1 x y",
+        "stop a.cluster plan --reserve 10 1 1 x",
+        "stop a.cluster plan 1 1 x 10",
+        "stop --reserve 10",
     ] {
         let (status, out, err) = here.room(words);
         assert!(status == 3 && out.is_empty(), "{words}: {err}");

@@ -6,9 +6,6 @@ use files::Size;
 use planner::Answer;
 use planner::Made;
 
-// A record has at most 65,535 bytes: one more is too long, whatever follows it.
-const ENOUGH: usize = 65536;
-
 // Whether the record at the buffer's front is in the file that an argument names, if there is that argument.
 fn saved(program: &[u8], argument: usize, plan: &[u8]) -> bool {
     if os::arg_count() <= argument {
@@ -50,7 +47,7 @@ fn answer_front(
 pub fn run(program: &[u8], reserve: u64, argument: usize) {
     let mut buffer = io::large_buffer();
     let mut plan = [0u8; planner::LEAST_BUFFER];
-    let found = files::load_input(program, &mut buffer, ENOUGH);
+    let found = files::load_input(program, &mut buffer, files::CLUSTER_ENOUGH);
     let Size::Bytes(n) = found else {
         return;
     };

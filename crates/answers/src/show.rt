@@ -14,24 +14,18 @@ fn text(bytes: &[u8]) {
     io::write_all(1, bytes);
 }
 
-// A word and a number.
-fn field(word: &[u8], n: u64) {
-    text(word);
-    io::print_decimal(1, n);
-}
-
 // A refusal of the planner has step 0.
 pub fn refused(number: u64) {
-    field(b"refused ", number);
+    files::field(b"refused ", number);
     text(b" step 0\n");
 }
 
 // The line of a move: step, VM, source, destination.
 fn line(step: usize, vm: u8, from: u8, to: u8) {
-    field(b"", step as u64);
-    field(b" ", vm as u64);
-    field(b" ", from as u64);
-    field(b" ", to as u64);
+    files::field(b"", step as u64);
+    files::field(b" ", vm as u64);
+    files::field(b" ", from as u64);
+    files::field(b" ", to as u64);
     text(b"\n");
 }
 
@@ -91,9 +85,9 @@ pub fn record(buffer: &[u8]) -> &[u8] {
 // A plan or blocked: the line of counts, and the lines of its moves.
 pub fn made(word: &[u8], cluster: &[u8], plan: &[u8], made: Made) {
     text(word);
-    field(b" steps ", made.steps);
-    field(b" moves ", made.moves);
-    field(b" cost ", made.cost);
+    files::field(b" steps ", made.steps);
+    files::field(b" moves ", made.moves);
+    files::field(b" cost ", made.cost);
     text(b"\n");
     checked(cluster, record(plan));
 }

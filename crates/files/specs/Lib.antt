@@ -1,2 +1,3 @@
 -- What the library's own functions answer.
 pub mod Number
+pub mod Long

@@ -1,7 +1,7 @@
 -- Numbers in decimal digits, as an argument of a program has them.
 use Prim.Native.Nat.{ℕ, _+_, _-_, _*_}
 use mathlib.Core.Bool.{Bool, not, _&&_, _||_}
-use mathlib.Core.List.{List, [], _∷_}
+use mathlib.Core.List.{List, [], _∷_, map}
 use lib.ListN.{length}
 use lib.Dec.{ltb, leb, eqb}
 use Rattle.records.specs.Base.{pick, all}
@@ -11,6 +11,10 @@ use Rattle.files.specs.declared.number.Number.the-variants.{Is, Not}
 -- the characters 0 to 9
 unfoldable pub isDigit : ℕ → Bool
 isDigit c = leb 48 c && leb c 57
+
+-- the value of each digit of a text
+unfoldable pub valuesOf : List ℕ → List ℕ
+valuesOf text = map (λ c. c - 48) text
 
 -- the value of digits behind a number, the most significant first
 abbrev pub oneMore : ℕ → ℕ → ℕ

@@ -1,13 +1,24 @@
 // The files and the arguments of the programs: a file is read to its end or not at all, and written whole or not; what cannot be is said on
-// standard error, and why.
+// standard error, and why. And what they print: words and numbers.
+mod long;
 mod number;
 
 use libc::STDERR_FILENO;
 use libc::STDIN_FILENO;
+use libc::STDOUT_FILENO;
+pub use long::stand_in;
 pub use number::Number;
+use number::all_digits;
 use number::number_in;
+use number::to_values;
 ghost use mathlib.Core.Path.{_≡_};
 ghost use lib.ListN.{take};
+
+// A cluster record has at most 65,535 bytes: one more is too long, whatever follows it. Of a plan file the size matters up to what a
+// record can state, 4,294,967,295.
+pub const CLUSTER_ENOUGH: usize = 65536;
+
+pub const PLAN_ENOUGH: usize = 4294967296;
 
 pub enum Size {
     Bytes(usize),
@@ -118,12 +129,18 @@ pub fn save(program: &[u8], argument: usize, bytes: &[u8]) -> bool {
     save_path(program, &path[..n], bytes)
 }
 
-// Says that an argument, which is called so, is no number.
-fn no_number(program: &[u8], what: &[u8], text: &[u8]) {
+// Prints a word and a number.
+pub fn field(word: &[u8], n: u64) {
+    io::write_all(STDOUT_FILENO, word);
+    io::print_decimal(STDOUT_FILENO, n);
+}
+
+// Says that an argument, which is called so, is not what it should be.
+fn is_not(program: &[u8], what: &[u8], wanted: &[u8], text: &[u8]) {
     io::write_all(STDERR_FILENO, program);
     io::write_all(STDERR_FILENO, b": ");
     io::write_all(STDERR_FILENO, what);
-    io::write_all(STDERR_FILENO, b" is not a number in digits: ");
+    io::write_all(STDERR_FILENO, wanted);
     io::write_all(STDERR_FILENO, text);
     io::write_all(STDERR_FILENO, b"\n");
 }
@@ -132,7 +149,7 @@ fn no_number(program: &[u8], what: &[u8], text: &[u8]) {
 fn read_number(program: &[u8], what: &[u8], text: &[u8]) -> Number {
     let found = number_in(text);
     if let Number::Not = found {
-        no_number(program, what, text);
+        is_not(program, what, b" is not a number in digits: ", text);
     }
     found
 }
@@ -142,4 +159,22 @@ pub fn load_number(program: &[u8], what: &[u8], argument: usize) -> Number {
     let mut text = io::buffer();
     let n = os::arg(argument, &mut text);
     read_number(program, what, &text[..n])
+}
+
+// The reserve that an argument is; 0 if there is no such argument.
+pub fn load_reserve(program: &[u8], argument: usize) -> Number {
+    if os::arg_count() <= argument {
+        return Number::Is(0);
+    }
+    load_number(program, b"the reserve", argument)
+}
+
+// Turns a text of digits, which is called so, into their values, a byte each, and says whether it is one; if not, that is told.
+pub fn read_digits(program: &[u8], what: &[u8], text: &mut [u8]) -> bool {
+    if all_digits(text) {
+        to_values(text);
+        return true;
+    }
+    is_not(program, what, b" are not all digits: ", text);
+    false
 }

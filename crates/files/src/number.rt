@@ -1,8 +1,9 @@
-// A number in decimal digits.
+// A number in decimal digits, and digits by themselves.
 ghost use mathlib.Core.Path.{_≡_};
 ghost use mathlib.Core.Bool.{true};
 ghost use Prim.Native.Nat.{_≤_};
-ghost use Rattle.files.specs.Number.{isDigit, largest, capped, oneMore, numberIn};
+ghost use Rattle.records.specs.Base.{all};
+ghost use Rattle.files.specs.Number.{isDigit, valuesOf, largest, capped, oneMore, numberIn};
 
 pub enum Number {
     Is(u64),
@@ -54,4 +55,32 @@ pub fn number_in(text: &[u8]) -> Number
         i += 1;
     }
     Number::Is(n)
+}
+
+// Whether a text is digits and nothing else.
+pub fn all_digits(text: &[u8]) -> bool
+    ensures { λ r. ⌜ r ≡ all isDigit (now (text .entry)) ⌝ }
+{
+    let mut i: usize = 0;
+    while i < text.len() {
+        let c = text[i];
+        if !is_digit(c) {
+            return false;
+        }
+        i += 1;
+    }
+    true
+}
+
+// Turns digits into their values.
+pub fn to_values(text: &mut [u8])
+    requires { ⌜ all isDigit (now text) ≡ true ⌝ }
+    ensures { λ r. ⌜ now (text .exit) ≡ valuesOf (now (text .entry)) ⌝ }
+{
+    let mut i: usize = 0;
+    while i < text.len() {
+        let c = text[i];
+        text[i] = c - 48;
+        i += 1;
+    }
 }

@@ -7,17 +7,15 @@ use mathlib.Core.Logic.{_↔_, _⊎_}
 use mathlib.Core.Path.{_≡_}
 use lib.ListN.{length}
 use Rattle.records.specs.Bytes.{versionOf}
-use Rattle.records.specs.Room.{Room, mostReserve, roomAt, clusterCheck}
+use Rattle.records.specs.Room.{Room, mostReserve, roomAt}
 use Rattle.records.specs.Plan.{Step, stepsOf, moveTotal, headerBytes, planBytes, writtenVersion}
-use Rattle.records.specs.declared.faults.ClusterCheck.{ClusterCheck}
 use Rattle.rules.specs.Moments.{Placement, currentOf}
 use Rattle.rules.specs.Orders.{Run, EachBeginOfRun}
-use Rattle.rules.specs.Rules.{targetCheck, soundStep}
+use Rattle.rules.specs.Rules.{soundStep}
 use Rattle.rules.specs.Cost.{costOf}
 use Rattle.rules.specs.Verdict.{verdictOf}
 use Rattle.rules.specs.Returned.{toldNumber, toldStep, toldSteps, toldMoves, toldCost, SaysGood, SaysBlocked, SaysRefused}
-use Rattle.rules.specs.Promises.{afterAll, namedAll, sourcedAll, Obeys, InTurn, EveryRun, SoundInOrders, NamesPlaces, StaysWithin, StaysApart, KeepsRunning, WaitsItsTurn}
-use Rattle.rules.specs.declared.faults.TargetCheck.{TargetCheck}
+use Rattle.rules.specs.Promises.{afterAll, namedAll, sourcedAll, AcceptedCluster, Obeys, InTurn, EveryRun, SoundInOrders, NamesPlaces, StaysWithin, StaysApart, KeepsRunning, WaitsItsTurn}
 use Rattle.rules.specs.declared.faults.Fault.{Fault}
 use Rattle.rules.specs.declared.faults.Verdict.{Verdict}
 use Rattle.planner.specs.Picks.{away, awayCount, canGo, useful, Picks}
@@ -108,9 +106,7 @@ pub record Halted (reserve : ℕ) (cluster plan : List ℕ) (made : Made) : Type
 
 -- none of the faults 23 and 1 to 10
 pub record Taken (reserve : ℕ) (cluster buffer : List ℕ) : Type 0 where
-  pub reserve-taken : reserve ≤ mostReserve
-  pub cluster-whole : clusterCheck cluster ≡ ClusterCheck.Whole
-  pub target-good : targetCheck (roomAt reserve cluster) ≡ TargetCheck.Good
+  pub taken : AcceptedCluster reserve cluster
   pub buffer-long : leastBuffer ≤ length buffer
 
 -- a field each, on any reserve, any cluster record and any buffer, and the number returned. What a node has is, in all of them and in the records

@@ -7,6 +7,7 @@ pub mod Rows
 pub mod Parts
 pub mod Reserve
 pub mod Cluster
+pub mod Updated
 pub mod Steps
 pub mod Written
 pub mod RoundTrip

@@ -3,7 +3,7 @@ use Prim.Native.Nat.{ℕ, zero, suc, _+_, _-_, _*_, _/_}
 use mathlib.Core.Bool.{Bool, true, false, not, _&&_, _||_}
 use mathlib.Core.List.{List, [], _∷_, map}
 use mathlib.Core.Path.{_≡_}
-use lib.ListN.{length, getD, take, drop}
+use lib.ListN.{length, getD, set, take, drop}
 use lib.Dec.{ltb, leb, eqb}
 use Rattle.records.specs.Base.{pick, all}
 use Rattle.records.specs.Bytes.{byteAt, be16, be24, be32, versionOf, knownVersion, AreBytes}
@@ -80,6 +80,17 @@ usableNode reserve node = record { memory = usable reserve (node .memory); cpu =
 -- a room at a reserve: what a node has is what is usable of it; VMs and constraints are the same
 unfoldable pub atReserve : ℕ → Room → Room
 atReserve reserve room = record { nodes = map (usableNode reserve) (room .nodes); vms = room .vms; constraints = room .constraints }
+
+-- ---- a room with its VMs elsewhere (02, Job 1)
+
+-- each VM, numbered from v on, at the place that a list has for it; what it needs and where it is wanted stays
+unfoldable pub placedFrom : List ℕ → ℕ → List Vm → List Vm
+placedFrom places v [] = []
+placedFrom places v (vm ∷ vms) =
+    record { memory = vm .memory; cpu = vm .cpu; current = getD places v 0; target = vm .target } ∷ placedFrom places (suc v) vms
+
+unfoldable pub atPlaces : List ℕ → Room → Room
+atPlaces places room = record { nodes = room .nodes; vms = placedFrom places 0 (room .vms); constraints = room .constraints }
 
 -- ---- constraints
 
@@ -251,6 +262,21 @@ roomOf s =
 -- the same at a reserve: the room that a call goes by
 abbrev pub roomAt : ℕ → List ℕ → Room
 roomAt reserve s = atReserve reserve (roomOf s)
+
+-- ---- a record brought up to date (02, Job 1)
+
+-- where the current place of VM v stands: the sixth byte of its row
+abbrev pub currentAt : List ℕ → ℕ → ℕ
+currentAt s v = vmsStart s + v * 7 + 5
+
+-- a record with that byte of its first n VMs set to the places of a list; no other byte is touched
+unfoldable pub updatedTo : List ℕ → List ℕ → ℕ → List ℕ
+updatedTo s places zero = s
+updatedTo s places (suc n) = set (updatedTo s places n) (currentAt s n) (getD places n 0)
+
+-- the same of all its VMs (the room that an undamaged record then stands for is the old one at these places: `Laws.Updated.updated-room`)
+unfoldable pub updated : List ℕ → List ℕ → List ℕ
+updated s places = updatedTo s places (vmCount s)
 
 -- ---- what makes a record damaged
 

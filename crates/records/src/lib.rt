@@ -26,6 +26,7 @@ pub use cluster::cluster_check;
 pub use room::MOST_RESERVE;
 pub use room::NOWHERE;
 pub use room::constraint_count;
+pub use room::current_at;
 pub use room::first_constraint;
 pub use room::node_count;
 pub use room::node_cpu;

@@ -11,7 +11,7 @@ ghost use mathlib.Core.Path.{_≡_};
 ghost use mathlib.Core.Bool.{true};
 ghost use Prim.Native.Nat.{_+_, _*_, _/_, _≤_, _<_, _^_};
 ghost use lib.ListN.{length};
-ghost use Rattle.records.specs.Room.{nodeCount, vmCount, constraintCount, vmsStart, constraintsStart, roomOf, roomAt, nodeOf, vmOf, mostReserve, usable, knowsNowhere, placeOk, clusterCheck};
+ghost use Rattle.records.specs.Room.{nodeCount, vmCount, constraintCount, vmsStart, constraintsStart, currentAt, roomOf, roomAt, nodeOf, vmOf, mostReserve, usable, knowsNowhere, placeOk, clusterCheck};
 ghost use Rattle.records.specs.declared.faults.ClusterCheck.{ClusterCheck};
 
 pub fn node_count(s: &[u8]) -> usize
@@ -117,6 +117,14 @@ pub fn vm_current(s: &[u8], v: usize) -> u8
     ensures { λ r. ⌜ (r ≡ vmOf (roomOf (now (s .entry))) v .current) × (placeOk (knowsNowhere (now (s .entry))) (nodeCount (now (s .entry))) r ≡ true) ⌝ }
 {
     byte(s, vm_row(s, v) + 5)
+}
+
+// Where the byte with the current place of VM v stands.
+pub fn current_at(s: &[u8], v: usize) -> usize
+    requires { ⌜ (clusterCheck (now s) ≡ ClusterCheck.Whole) × (v < vmCount (now s)) ⌝ }
+    ensures { λ r. ⌜ (r ≡ currentAt (now (s .entry)) v) × (r < length (now (s .entry))) ⌝ }
+{
+    vm_row(s, v) + 5
 }
 
 // Where VM v is wanted.

@@ -41,11 +41,15 @@ unfoldable pub soundAll : Room → Placement → List Step → Bool
 soundAll room places [] = true
 soundAll room places (step ∷ steps) = soundStep room places step && soundAll room (after places step) steps
 
--- none of the faults 23, 1 to 9 and 11 to 14
-pub record Shaped (reserve : ℕ) (cluster plan : List ℕ) : Type 0 where
+-- an accepted cluster, at a reserve: none of the faults 23 and 1 to 9 (01, "The planner"; 02, Job 5)
+pub record AcceptedCluster (reserve : ℕ) (cluster : List ℕ) : Type 0 where
   pub reserve-taken : reserve ≤ mostReserve
   pub cluster-whole : clusterCheck cluster ≡ ClusterCheck.Whole
   pub target-good : targetCheck (roomAt reserve cluster) ≡ TargetCheck.Good
+
+-- none of the faults 23, 1 to 9 and 11 to 14
+pub record Shaped (reserve : ℕ) (cluster plan : List ℕ) : Type 0 where
+  pub taken : AcceptedCluster reserve cluster
   pub plan-whole : planCheck plan ≡ PlanCheck.Whole
 
 -- what the rules ask of a begin: it fits, meets no mate, and its destination is allowed

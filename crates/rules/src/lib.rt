@@ -50,6 +50,7 @@ pub use tally::need_of;
 pub use allow::allow_table;
 pub use places::current_places;
 pub use places::entry;
+pub use places::moved;
 pub use places::place_at;
 pub use places::target_places;
 pub use places::wide;

@@ -1,4 +1,4 @@
-//! A simple checker of the same rules in plain Rust, coded for speed measurements.
+//! A simple checker of the same rules in plain Rust, and stops by it, coded for speed measurements.
 //!
 //! It reads the lent bytes in place and keeps a mask of open nodes for each VM, a mask of VMs for
 //! each spread, and for each node its sums and a mask of the VMs on it. Of VMs on no node nothing is
@@ -20,6 +20,71 @@ pub fn check(reserve: u64, cluster: &[u8], plan: &[u8]) -> u64 {
         Ok(cost) => ACCEPTED | cost,
         Err((number, step)) => REFUSED | u64::from(number) << 16 | u64::from(step),
     }
+}
+
+/// Stops a plan in a step at a reserve; the packed answer. The cluster record goes to the front of `out`.
+pub fn stop(
+    reserve: u64,
+    cluster: &[u8],
+    plan: &[u8],
+    step: u64,
+    marks: &[u8],
+    out: &mut [u8],
+) -> u64 {
+    let checked = check(reserve, cluster, plan);
+    if checked >> 62 != 0 {
+        return checked;
+    }
+    match stop_sound(cluster, plan, step, marks, out) {
+        Ok(()) => cluster.len() as u64,
+        Err(number) => REFUSED | u64::from(number) << 16,
+    }
+}
+
+/// Stops a plan that is accepted; the error is the refusal number, 20 to 22.
+fn stop_sound(
+    cluster: &[u8],
+    plan: &[u8],
+    step: u64,
+    marks: &[u8],
+    out: &mut [u8],
+) -> Result<(), u8> {
+    let width = if plan.first() == Some(&2) { 3 } else { 2 };
+    let steps = plan.get(7..).unwrap_or(&[]);
+    let before = steps.len() - from_step(steps, width, step).ok_or(20)?.len();
+    let (earlier, stopped) = steps.split_at(before);
+    if be16(stopped) != marks.len() {
+        return Err(20);
+    }
+    if marks.iter().any(|&mark| mark > 1) {
+        return Err(21);
+    }
+    let out = out.get_mut(..cluster.len()).ok_or(22)?;
+    out.copy_from_slice(cluster);
+    let places = &mut out[11 + 5 * be16(&cluster[5..])..];
+    let mut rest = earlier;
+    while !rest.is_empty() {
+        let (moves, behind) = rest[2..].split_at(width * be16(rest));
+        moves.chunks_exact(width).for_each(|m| put_at(places, m));
+        rest = behind;
+    }
+    let ended = stopped[2..].chunks_exact(width).zip(marks).filter(|(_, &mark)| mark == 1);
+    ended.for_each(|(m, _)| put_at(places, m));
+    Ok(())
+}
+
+/// The bytes of a plan's steps from this one on, if there is such a step.
+fn from_step(mut steps: &[u8], width: usize, step: u64) -> Option<&[u8]> {
+    for _ in 1..step {
+        let moves = be16(steps.get(..2)?);
+        steps = &steps[2 + width * moves..];
+    }
+    (step > 0 && !steps.is_empty()).then_some(steps)
+}
+
+/// Puts the VM of a move on its destination, among the VM rows.
+fn put_at(rows: &mut [u8], m: &[u8]) {
+    rows[7 * usize::from(m[0]) + 5] = m[m.len() - 1];
 }
 
 fn verdict(reserve: u64, cluster: &[u8], plan: &[u8]) -> Result<u64, Fault> {

@@ -105,7 +105,7 @@ impl Report {
 
     /// The library's own checker must take the plan it built at its cost, and refuse the steps
     /// of blocked with 19; and the same steps without their sources.
-    fn check_built(&mut self, reserve: u64, cluster: &[u8], built: &Built) {
+    pub(crate) fn check_built(&mut self, reserve: u64, cluster: &[u8], built: &Built) {
         let expected =
             if built.answer >> 62 == 0 { built.answer & COST } else { 2 << 62 | 19 << 16 };
         let without = parse_plan(built.record()).map(|plan| plan_bytes(&bare(&plan.steps)));
@@ -129,11 +129,11 @@ pub(crate) struct Built {
 }
 
 impl Built {
-    fn is_refused(&self) -> bool {
+    pub(crate) fn is_refused(&self) -> bool {
         self.answer >> 62 == 2
     }
 
-    fn steps(&self) -> usize {
+    pub(crate) fn steps(&self) -> usize {
         (self.answer >> 53 & 511) as usize
     }
 
@@ -154,7 +154,7 @@ impl Built {
     }
 }
 
-fn built_by(before: &[u8], planner: impl Fn(&mut [u8]) -> u64) -> Built {
+pub(crate) fn built_by(before: &[u8], planner: impl Fn(&mut [u8]) -> u64) -> Built {
     let mut out = before.to_vec();
     let answer = planner(&mut out);
     Built { answer, out }
@@ -168,7 +168,7 @@ fn built_watched(reserve: u64, cluster: &[u8], before: &[u8]) -> (Built, bool) {
     (Built { answer, out: out.now().to_vec() }, kept)
 }
 
-fn answer_words(packed: u64) -> String {
+pub(crate) fn answer_words(packed: u64) -> String {
     let (steps, moves) = (packed >> 53 & 511, packed >> 44 & 511);
     let counts = format!("{steps} steps, {moves} moves, cost {}", packed & COST);
     match packed >> 62 {

@@ -385,3 +385,29 @@ pub fn small_room() -> Input {
     let steps = edges::steps(&[&[(0, 2)], &[(1, 0)], &[(0, 1)]]);
     input("cluster A", (cluster_a(), steps), None)
 }
+
+// ---------------------------------------------------------------- stops
+
+/// A plan of version 2 that is stopped in one of its steps.
+pub struct Halt {
+    pub name: &'static str,
+    pub input: Input,
+    pub step: u64,
+    pub marks: Vec<u8>,
+}
+
+/// All stops that are measured, that of the small room last.
+pub fn halts() -> Vec<Halt> {
+    let half = (0..VMS).map(|vm| u8::from(vm % 2 == 0)).collect();
+    vec![
+        Halt { name: "hops, the last step", input: hops(), step: 512, marks: vec![1, 0] },
+        Halt { name: "mixed, half way", input: mixed_at_a_reserve(), step: 256, marks: vec![0, 1] },
+        Halt {
+            name: "wide launches, half of a step",
+            input: wide_launches(),
+            step: 3,
+            marks: half,
+        },
+        Halt { name: "cluster A", input: small_room(), step: 2, marks: vec![1] },
+    ]
+}

@@ -1,6 +1,6 @@
 //! The verified library, called through its C interface, and what it is held against.
 //!
-//! `check` and `build` lend slices as they are. `Lent` puts guard bytes around a copy, so that a
+//! `check`, `build` and `stop` lend slices as they are. `Lent` puts guard bytes around a copy, so that a
 //! write into lent bytes, or beside them, shows.
 
 pub mod baseline;
@@ -17,23 +17,37 @@ mod reserves;
 pub mod rooms;
 mod seen;
 pub mod sources;
+mod stopped;
+pub mod stops;
 pub mod streams;
 pub mod timing;
 mod told;
 
 mod c {
     extern "C" {
-        pub fn kobdrieft_check_v7(
+        pub fn kobdrieft_check_v8(
             reserve: u64,
             cluster: *const u8,
             cluster_len: usize,
             plan: *const u8,
             plan_len: usize,
         ) -> u64;
-        pub fn kobdrieft_build_v7(
+        pub fn kobdrieft_build_v8(
             reserve: u64,
             cluster: *const u8,
             cluster_len: usize,
+            out: *mut u8,
+            out_len: usize,
+        ) -> u64;
+        pub fn kobdrieft_stop_v8(
+            reserve: u64,
+            cluster: *const u8,
+            cluster_len: usize,
+            plan: *const u8,
+            plan_len: usize,
+            step: u64,
+            marks: *const u8,
+            marks_len: usize,
             out: *mut u8,
             out_len: usize,
         ) -> u64;
@@ -45,14 +59,41 @@ pub fn check(reserve: u64, cluster: &[u8], plan: &[u8]) -> u64 {
     let (bytes, length) = (cluster.as_ptr(), cluster.len());
     // SAFETY: each pointer can be read for the length beside it. An empty slice has a pointer
     // that is not null, and no byte of it is read.
-    unsafe { c::kobdrieft_check_v7(reserve, bytes, length, plan.as_ptr(), plan.len()) }
+    unsafe { c::kobdrieft_check_v8(reserve, bytes, length, plan.as_ptr(), plan.len()) }
 }
 
 /// Builds a plan for a cluster at a reserve, at the front of `out`; the packed answer.
 pub fn build(reserve: u64, cluster: &[u8], out: &mut [u8]) -> u64 {
     let (bytes, length) = (cluster.as_ptr(), cluster.len());
     // SAFETY: as in `check`, and `out` can be written for its length and overlaps nothing.
-    unsafe { c::kobdrieft_build_v7(reserve, bytes, length, out.as_mut_ptr(), out.len()) }
+    unsafe { c::kobdrieft_build_v8(reserve, bytes, length, out.as_mut_ptr(), out.len()) }
+}
+
+/// Stops a plan for a cluster in a step at a reserve; the cluster record as it then is goes to the front
+/// of `out`. Gives the packed answer.
+pub fn stop(
+    reserve: u64,
+    cluster: &[u8],
+    plan: &[u8],
+    step: u64,
+    marks: &[u8],
+    out: &mut [u8],
+) -> u64 {
+    // SAFETY: as in `build`.
+    unsafe {
+        c::kobdrieft_stop_v8(
+            reserve,
+            cluster.as_ptr(),
+            cluster.len(),
+            plan.as_ptr(),
+            plan.len(),
+            step,
+            marks.as_ptr(),
+            marks.len(),
+            out.as_mut_ptr(),
+            out.len(),
+        )
+    }
 }
 
 /// How many guard bytes stand on either side. An odd number also lends odd addresses.
@@ -102,12 +143,38 @@ impl Lent {
 pub fn check_lent(reserve: u64, cluster: &mut Lent, plan: &mut Lent) -> u64 {
     let (bytes, length) = (cluster.pointer(), cluster.len());
     // SAFETY: both pointers stay within their vectors for the length beside them.
-    unsafe { c::kobdrieft_check_v7(reserve, bytes, length, plan.pointer(), plan.len()) }
+    unsafe { c::kobdrieft_check_v8(reserve, bytes, length, plan.pointer(), plan.len()) }
 }
 
 /// As `build`, over watched bytes.
 pub fn build_lent(reserve: u64, cluster: &mut Lent, out: &mut Lent) -> u64 {
     let (bytes, length) = (cluster.pointer(), cluster.len());
     // SAFETY: as in `check_lent`; the two vectors are apart.
-    unsafe { c::kobdrieft_build_v7(reserve, bytes, length, out.pointer(), out.len()) }
+    unsafe { c::kobdrieft_build_v8(reserve, bytes, length, out.pointer(), out.len()) }
+}
+
+/// As `stop`, over watched bytes.
+pub fn stop_lent(
+    reserve: u64,
+    cluster: &mut Lent,
+    plan: &mut Lent,
+    step: u64,
+    marks: &mut Lent,
+    out: &mut Lent,
+) -> u64 {
+    // SAFETY: as in `build_lent`; all four vectors are apart.
+    unsafe {
+        c::kobdrieft_stop_v8(
+            reserve,
+            cluster.pointer(),
+            cluster.len(),
+            plan.pointer(),
+            plan.len(),
+            step,
+            marks.pointer(),
+            marks.len(),
+            out.pointer(),
+            out.len(),
+        )
+    }
 }

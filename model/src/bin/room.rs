@@ -1,13 +1,14 @@
-//! The trainer's command: records from text and back, plans, verdicts, costs and pictures.
+//! The trainer's command: records from text and back, plans, verdicts, stops, costs and pictures.
 
 use kobdrieft_model::draw::{page, Whose};
 use kobdrieft_model::form::{read_cluster, read_plan, write_cluster, write_plan, Fault};
 use kobdrieft_model::ledger::{lines, table};
 use kobdrieft_model::reasons::reason;
 use kobdrieft_model::rules::{plan_cost, reserve_fault};
-use kobdrieft_model::text::{planned, read_reserve, verdict_text};
+use kobdrieft_model::text::{planned, read_marks, read_number, stopped, verdict_text};
 use kobdrieft_model::{check, cluster_bytes, parse_cluster, parse_plan, plan_bytes};
 use kobdrieft_model::{Plan, Room, Verdict};
+use std::os::unix::fs::MetadataExt;
 use std::{env, fs, io::Write, process::ExitCode};
 
 const USAGE: &str = "\
@@ -19,13 +20,16 @@ room plan [--reserve R] CLUSTER PLAN
                                  make a plan, write its record, print what the planning program prints
 room check [--reserve R] CLUSTER PLAN
                                  print the verdict
+room stop [--reserve R] CLUSTER PLAN STEP MARKS OUT
+                                 stop a plan in a step, write the cluster record with all VMs where they are;
+                                 MARKS has a digit for each move of the step: 1 it ended, 0 it did not
 room cost CLUSTER PLAN           print how the cost builds up, a line for each step; the last word is the cost
 room draw [--reserve R] CLUSTER PLAN PAGE [VERDICT]
                                  draw a plan as an HTML page; VERDICT is the line that the proved checker
                                  prints for it, else the page shows the model's own
 R is the share of each node, in percent, that is kept for the hypervisor: 0 if it is not given
 a PLAN of 0 bytes is read as a plan of no steps
-exit status: 0 plan or accepted, or done; 1 blocked; 2 refused, or a damaged record;
+exit status: 0 plan, accepted or stopped, or done; 1 blocked; 2 refused, or a damaged record;
              3 wrong use, or a file that cannot be read or written
 ";
 
@@ -73,6 +77,9 @@ fn run(words: &[&str]) -> Outcome {
         ["check", cluster, plan] => {
             answer(&verdict_text(check(reserve, &read(cluster)?, &read(plan)?)))
         }
+        ["stop", cluster, plan, step, marks, out] => {
+            stop_plan(reserve, [cluster, plan], step, marks, out)
+        }
         ["cost", cluster, plan] => cost_table(cluster, plan),
         ["draw", cluster, plan, page, ref verdict @ ..] if verdict.len() < 2 => {
             draw_plan(reserve, cluster, plan, page, verdict.first())
@@ -87,11 +94,12 @@ fn run(words: &[&str]) -> Outcome {
 
 /// Takes the reserve, or 0 if none is given, out from behind the commands that look at one.
 fn take_reserve<'a>(words: &[&'a str]) -> Result<(u64, Vec<&'a str>), Failure> {
-    let [command @ ("plan" | "check" | "draw"), "--reserve", digits, rest @ ..] = words else {
+    let [command @ ("plan" | "check" | "stop" | "draw"), "--reserve", digits, rest @ ..] = words
+    else {
         return Ok((0, words.to_vec()));
     };
     let why = || wrong(format!("'{digits}' stands where a reserve should, a number in digits"));
-    let reserve = read_reserve(digits).ok_or_else(why)?;
+    let reserve = read_number(digits).ok_or_else(why)?;
     Ok((reserve, [&[*command], rest].concat()))
 }
 
@@ -100,6 +108,25 @@ fn make_plan(reserve: u64, cluster: &str, plan: &str) -> Outcome {
     let (text, made) = planned(reserve, &read(cluster)?);
     if let Some(made) = made {
         write(plan, &made)?;
+    }
+    answer(&text)
+}
+
+/// Stops a plan with the model. A refusal gives its line and no record. The record takes the place of
+/// neither file that is read.
+fn stop_plan(reserve: u64, files: [&str; 2], step: &str, marks: &str, out: &str) -> Outcome {
+    let no_step = || wrong(format!("'{step}' stands where a step should, a number in digits"));
+    let step = read_number(step).ok_or_else(no_step)?;
+    let no_marks = || wrong(format!("'{marks}' stands where marks should, a digit for each move"));
+    let marks = read_marks(marks).ok_or_else(no_marks)?;
+    let [cluster, plan] = files.map(read);
+    let (cluster, plan) = (cluster?, plan?);
+    if let Some(file) = files.into_iter().find(|file| is_same(file, out)) {
+        return Err(wrong(format!("the record would be written over {file}")));
+    }
+    let (text, record) = stopped(reserve, &cluster, &plan, step, &marks);
+    if let Some(record) = record {
+        write(out, &record)?;
     }
     answer(&text)
 }
@@ -172,6 +199,12 @@ fn wrong(why: String) -> Failure {
 
 fn read(name: &str) -> Result<Vec<u8>, Failure> {
     fs::read(name).map_err(|error| wrong(format!("{name}: cannot be read ({error})")))
+}
+
+/// Whether two names are of one file.
+fn is_same(one: &str, other: &str) -> bool {
+    let file = |name| fs::metadata(name).map(|file| (file.dev(), file.ino())).ok();
+    file(one).is_some() && file(one) == file(other)
 }
 
 fn write(name: &str, bytes: &[u8]) -> Outcome {

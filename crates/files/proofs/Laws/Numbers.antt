@@ -12,7 +12,6 @@ use lib.Seq.{drop-cons}
 use lib.Dec.{ltb, leb, eqb}
 use borrow.Author.Tests.{lt-ltb, le-ltb, lt-leb, le-leb, leb-true, ne-eqb, eq-eqb}
 use Rattle.records.specs.Base.{pick, all}
-use Rattle.records.specs.Room.{mostReserve}
 use Rattle.records.proofs.Laws.Bools.{and-left}
 use Rattle.files.specs.Number.{isDigit, oneMore, valueBehind, largest, capped, numberIn}
 use Rattle.files.specs.declared.number.Number.the-variants.{Is, Not}
@@ -41,9 +40,9 @@ pub cap-high : (n : ℕ) → largest ≤ n → largest ≡ capped n
 unfolding capped
 cap-high n h = rw (le-ltb n largest h)
 
--- so a reserve that is taken is told as it is, and one that is too large as one that is too large
-pub capped-reserve : (n : ℕ) → (n ≤ mostReserve → capped n ≡ n) × (mostReserve < n → mostReserve < capped n)
-capped-reserve n = (
+-- so a number within a limit is told as it is, and one past it as one past it: of a reserve (90), and of a step (512)
+pub capped-limit : (limit n : ℕ) → limit < largest → (n ≤ limit → capped n ≡ n) × (limit < n → limit < capped n)
+capped-limit limit n m = (
   λ h. sym (cap-low n (omega arith)),
   λ h. by-cases (decLt n largest) (λ l. rw (← cap-low n l) h) (λ l. rw (← cap-high n (omega arith)) (omega arith)),
 )

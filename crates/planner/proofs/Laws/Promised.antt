@@ -121,7 +121,7 @@ taken-of reserve cluster before e = on-reserve (ltb mostReserve reserve) refl e
     on-size : (b : Bool) → ltb (length before) leastBuffer ≡ b → reserve ≤ mostReserve → clusterCheck cluster ≡ ClusterCheck.Whole → targetCheck (roomAt reserve cluster) ≡ TargetCheck.Good →
         refuses (pick b (Refused BuildFault.Buffer) (outcome (roomAt reserve cluster) (stepsFor (roomAt reserve cluster)))) ≡ false → Taken reserve cluster before
     on-size true q k c t f = absurd (false≢true (sym f))
-    on-size false q k c t f = record { reserve-taken = k; cluster-whole = c; target-good = t; buffer-long = ltb-false (length before) leastBuffer q }
+    on-size false q k c t f = record { taken = record { reserve-taken = k; cluster-whole = c; target-good = t }; buffer-long = ltb-false (length before) leastBuffer q }
 
     on-target : (t : TargetCheck) → targetCheck (roomAt reserve cluster) ≡ t → reserve ≤ mostReserve → clusterCheck cluster ≡ ClusterCheck.Whole →
         refuses (answerTarget t (pick (ltb (length before) leastBuffer) (Refused BuildFault.Buffer) (outcome (roomAt reserve cluster) (stepsFor (roomAt reserve cluster))))) ≡ false → Taken reserve cluster before
@@ -146,13 +146,13 @@ taken-of reserve cluster before e = on-reserve (ltb mostReserve reserve) refl e
 module _ (reserve : ℕ) (cluster before : List ℕ) (t : Taken reserve cluster before) where
   pub taken-answer : answerOf reserve cluster (length before) ≡ outcome (roomAt reserve cluster) (stepsFor (roomAt reserve cluster))
   unfolding answerOf answerReserve answerCluster answerTarget
-  taken-answer = rw (le-ltb mostReserve reserve (t .reserve-taken), t .cluster-whole, t .target-good, le-ltb (length before) leastBuffer (t .buffer-long))
+  taken-answer = rw (le-ltb mostReserve reserve (t .taken .reserve-taken), t .taken .cluster-whole, t .taken .target-good, le-ltb (length before) leastBuffer (t .buffer-long))
 
   few : length (roomAt reserve cluster .vms) ≤ 256
-  few = let a = room-vms reserve cluster in let b = vms-most cluster (t .cluster-whole) in omega arith
+  few = let a = room-vms reserve cluster in let b = vms-most cluster (t .taken .cluster-whole) in omega arith
 
   nodes-few : length (roomAt reserve cluster .nodes) ≤ 64
-  nodes-few = rw (room-nodes reserve cluster) (nodes-most cluster (t .cluster-whole))
+  nodes-few = rw (room-nodes reserve cluster) (nodes-most cluster (t .taken .cluster-whole))
 
   picks-are : Picks (roomAt reserve cluster) (currentOf (roomAt reserve cluster)) (stepsFor (roomAt reserve cluster))
   unfolding stepsFor
@@ -201,7 +201,7 @@ module _ (reserve : ℕ) (cluster before : List ℕ) (t : Taken reserve cluster 
         auditor = rw e (stays-within (roomAt reserve cluster) (currentOf (roomAt reserve cluster)) (stepsFor (roomAt reserve cluster)) nodes-few steps-sound (current-length (roomAt reserve cluster)));
         apart = rw e (stays-apart (roomAt reserve cluster) (currentOf (roomAt reserve cluster)) (stepsFor (roomAt reserve cluster)) steps-sound (current-length (roomAt reserve cluster)));
         running = rw e (keeps-running (roomAt reserve cluster) (currentOf (roomAt reserve cluster)) (stepsFor (roomAt reserve cluster)) nodes-few (sound-all-named (roomAt reserve cluster) (currentOf (roomAt reserve cluster)) (stepsFor (roomAt reserve cluster)) steps-sound) (current-length (roomAt reserve cluster)));
-        waits = rw e (waits-its-turn (roomAt reserve cluster) (currentOf (roomAt reserve cluster)) (stepsFor (roomAt reserve cluster)) (first-there reserve cluster (t .cluster-whole)) steps-sound (current-length (roomAt reserve cluster)));
+        waits = rw e (waits-its-turn (roomAt reserve cluster) (currentOf (roomAt reserve cluster)) (stepsFor (roomAt reserve cluster)) (first-there reserve cluster (t .taken .cluster-whole)) steps-sound (current-length (roomAt reserve cluster)));
         none = λ z. e ∙ empty (stepsFor (roomAt reserve cluster)) (let b = budget-none (roomAt reserve cluster) (currentOf (roomAt reserve cluster)) z in omega arith);
         short = λ z. rw e (let b = budget-most (roomAt reserve cluster) (currentOf (roomAt reserve cluster)) z in omega arith);
         version = ap versionOf p ∙ version-is (stepsFor (roomAt reserve cluster)) steps-tell steps-shaped;
@@ -255,9 +255,7 @@ module _ (reserve : ℕ) (cluster before : List ℕ) (t : Taken reserve cluster 
     -- what the checker says of it, by its contract
     whole : Shaped reserve cluster plan
     whole = record {
-      reserve-taken = t .reserve-taken;
-      cluster-whole = t .cluster-whole;
-      target-good = t .target-good;
+      taken = t .taken;
       plan-whole = ap planCheck p ∙ plan-whole (stepsFor (roomAt reserve cluster)) steps-tell steps-shaped;
     }
 

@@ -6,7 +6,7 @@ use native.Mathlib.Nat.{add-assoc, zero-add}
 use native.Mathlib.Numerals.{add-one, add-two, add-three}
 use native.Mathlib.Omega.{arith}
 use lib.ListN.{length, getD, set, take, drop, length-append, length-take, length-drop}
-use lib.Seq.{sets, sets-eq, length-take-le, take-append-le, drop-append-le, drop-append-add, take-at, drop-at, drop-drop, take-take}
+use lib.Seq.{take-suc, take-suc-set, drop-set-lt, sets, sets-eq, length-take-le, take-append-le, drop-append-le, drop-append-add, take-at, drop-at, drop-drop, take-take}
 use Rattle.records.specs.Bytes.{bytes16, bytes32}
 use Rattle.records.specs.Plan.{Move, sourceBytes, moveBytes, headerBytes, writtenVersion, writtenWidth, written}
 use Rattle.records.specs.declared.plan.Source.the-variants.{Named}
@@ -125,3 +125,15 @@ header-written l m n end steps e f h =
 
     nm : n ≡ written l 1 (bytes32 end ++ bytes16 steps)
     nm = f ∙ ap (λ (x : List ℕ). written x 1 (bytes32 end)) e ∙ written-earlier l 1 (bytes32 end) (bytes16 steps) h
+
+-- ---- a list put into a buffer element by element: the first i are those of the list, the others as they were
+
+pub put-one : (l out : List ℕ) (i x : ℕ) → x ≡ getD l i 0 → take i out ≡ take i l → i < length out → i < length l → take (i + 1) (set out i x) ≡ take (i + 1) l
+put-one l out i x e inv h k =
+    rw add-one (take-suc-set out i x h ∙ ap (λ (y : List ℕ). y ++ (x ∷ [])) inv ∙ ap (λ (y : ℕ). take i l ++ (y ∷ [])) e ∙ sym (take-suc l i 0 k))
+
+pub put-rest : (out old : List ℕ) (i x : ℕ) → drop i out ≡ drop i old → drop (i + 1) (set out i x) ≡ drop (i + 1) old
+put-rest out old i x inv =
+    let l : i < suc i = omega arith in
+    let m : i + 1 ≡ suc i = omega arith in
+    rw add-one (drop-set-lt (suc i) out i x l ∙ ap (λ (j : ℕ). drop j out) (sym m) ∙ sym (drop-drop 1 i out) ∙ ap (drop 1) inv ∙ drop-drop 1 i old ∙ ap (λ (j : ℕ). drop j old) m)

@@ -95,17 +95,17 @@ module _ (reserve : ℕ) (cluster plan : List ℕ) (b : AreBytes cluster) where
       cost = λ g. cost-is (toldCost r) (accepted g);
       below = λ g. cost-most (toldCost r) (accepted g);
       auditor = λ g.
-          stays-within (roomAt reserve cluster) (currentOf (roomAt reserve cluster)) (stepsOf plan) (few (only-holds reserve cluster plan (toldCost r) (accepted g) .0 .cluster-whole))
+          stays-within (roomAt reserve cluster) (currentOf (roomAt reserve cluster)) (stepsOf plan) (few (only-holds reserve cluster plan (toldCost r) (accepted g) .0 .taken .cluster-whole))
           (accepted-steps reserve cluster plan (toldCost r) (accepted g) .sound) (current-length (roomAt reserve cluster));
       apart = λ g.
           stays-apart (roomAt reserve cluster) (currentOf (roomAt reserve cluster)) (stepsOf plan) (accepted-steps reserve cluster plan (toldCost r) (accepted g) .sound) (current-length (roomAt reserve cluster));
       running = λ g.
           let o = only-holds reserve cluster plan (toldCost r) (accepted g) in
-          keeps-running (roomAt reserve cluster) (currentOf (roomAt reserve cluster)) (stepsOf plan) (few (o .0 .cluster-whole)) (o .1) (current-length (roomAt reserve cluster));
+          keeps-running (roomAt reserve cluster) (currentOf (roomAt reserve cluster)) (stepsOf plan) (few (o .0 .taken .cluster-whole)) (o .1) (current-length (roomAt reserve cluster));
       version-1 = nothing-down reserve cluster;
       waits = λ g.
           let o = only-holds reserve cluster plan (toldCost r) (accepted g) in
-          waits-its-turn (roomAt reserve cluster) (currentOf (roomAt reserve cluster)) (stepsOf plan) (first-there reserve cluster (o .0 .cluster-whole))
+          waits-its-turn (roomAt reserve cluster) (currentOf (roomAt reserve cluster)) (stepsOf plan) (first-there reserve cluster (o .0 .taken .cluster-whole))
           (accepted-steps reserve cluster plan (toldCost r) (accepted g) .sound) (current-length (roomAt reserve cluster));
       sources = λ g v.
           let a = accepted-steps reserve cluster plan (toldCost r) (accepted g) in

@@ -172,7 +172,7 @@ under-busy d (stops {p = p} {d = to} o) = both (or-second (eqb p d)) (under-busy
 
 -- ---- orders put together
 
-pub joined : {cs ds es : Moment} → Order cs ds → Order ds es → Order cs es
+unfoldable pub joined : {cs ds es : Moment} → Order cs ds → Order ds es → Order cs es
 joined done p = p
 joined (next e o) p = next e (joined o p)
 

@@ -40,7 +40,7 @@ pub same-stands : (v d : ℕ) (cs ds : Moment) → load (alone v) d ds ≡ load 
 same-stands v d cs ds e = stands-load v d ds ∙ ap (ltb 0) e ∙ sym (stands-load v d cs)
 
 -- what counts under a moment counts there
-stands-under : (v : ℕ) {d : ℕ} {cs ds : Moment} → Under d ds cs → standsOn ds v d ≡ true → standsOn cs v d ≡ true
+pub stands-under : (v : ℕ) {d : ℕ} {cs ds : Moment} → Under d ds cs → standsOn ds v d ≡ true → standsOn cs v d ≡ true
 unfolding standsOn
 stands-under v u e = under-some (λ n. eqb n v) u e
 

@@ -133,11 +133,9 @@ module _ (less more : ℕ) (cluster plan : List ℕ) (h : less ≤ more) where
       let room = roomOf cluster in
       let o = only-holds more cluster plan cost e .0 in
       let a = accepted-steps more cluster plan cost e in
-      let q = o .reserve-taken in
+      let q = o .taken .reserve-taken in
       let s : Shaped less cluster plan = record {
-        reserve-taken = omega arith;
-        cluster-whole = o .cluster-whole;
-        target-good = target-still less more room h (o .target-good);
+        taken = record { reserve-taken = omega arith; cluster-whole = o .taken .cluster-whole; target-good = target-still less more room h (o .taken .target-good) };
         plan-whole = o .plan-whole;
       } in
       shaped-verdict less cluster plan s ∙

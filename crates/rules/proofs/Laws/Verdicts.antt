@@ -349,7 +349,7 @@ ends-away room places steps l = (runs, found)
 -- with none of the faults 23 and 1 to 14 it is the verdict on the steps
 pub shaped-verdict : (reserve : ℕ) (cluster plan : List ℕ) → Shaped reserve cluster plan → verdictOf reserve cluster plan ≡ planVerdict (roomAt reserve cluster) (stepsOf plan)
 unfolding verdictOf onReserve onCluster onTarget onPlan
-shaped-verdict reserve cluster plan h = simp (le-ltb mostReserve reserve (h .reserve-taken), h .cluster-whole, h .target-good, h .plan-whole)
+shaped-verdict reserve cluster plan h = simp (le-ltb mostReserve reserve (h .taken .reserve-taken), h .taken .cluster-whole, h .taken .target-good, h .plan-whole)
 
 -- a verdict that is reached before the cluster is looked at
 abbrev early : Verdict → Bool
@@ -412,7 +412,7 @@ unfolding verdictOf
 late-shaped reserve cluster plan v n l e =
     let r = on-reserve _ v n reserve e in
     let b = behind-checks reserve cluster plan v l (r .1) in
-    (record { reserve-taken = r .0; cluster-whole = b .0; target-good = b .1; plan-whole = b .2 }, b .3)
+    (record { taken = record { reserve-taken = r .0; cluster-whole = b .0; target-good = b .1 }; plan-whole = b .2 }, b .3)
 
 -- the steps say nothing of the reserve
 step-later : (number : ℕ) (rest : Verdict) → early rest ≡ false → (c : StepCheck) → early (onStep c number rest) ≡ false

@@ -1,6 +1,6 @@
 //! Measures the library's `check` beside the model and the baseline on the inputs of `inputs`, each
 //! as a plan of version 1 and of version 2, after comparing library, baseline and model on both;
-//! with the planner, `build` beside the model on those of `rooms`. Buffers are not cleared between
+//! with the planner, `build` beside the model on those of `rooms`; and `stop` beside both. Buffers are not cleared between
 //! calls, so caches are warm. With `--agree` it compares and measures nothing.
 
 use kobdrieft_harness::inputs::{all, Input, Outcome};
@@ -28,9 +28,11 @@ fn main() {
     println!("baseline and model agree on {} more", verify_baseline());
     if only_agree {
         planning::agree();
+        stopping::agree();
     } else {
         print_table(&inputs);
         planning::builds();
+        stopping::stops();
     }
 }
 
@@ -185,6 +187,114 @@ fn times(input: &Input) -> [[f64; 3]; 2] {
     ])
     .map(|time| time.nanos);
     [[a, c, e], [b, d, f]]
+}
+
+// ---------------------------------------------------------------- stops
+mod stopping {
+    use super::expect;
+    use kobdrieft_harness::inputs::{halts, Halt};
+    use kobdrieft_harness::timing::measure;
+    use kobdrieft_harness::{baseline, stop, streams};
+    use kobdrieft_model::edges::stop_edges;
+    use kobdrieft_model::gen::{cases, Rng};
+    use kobdrieft_model::stops::{some_stop, Ask};
+    use kobdrieft_model::{self as model, pack_stop};
+    use std::cell::RefCell;
+    use std::hint::black_box;
+
+    /// A call: reserve, cluster, plan, step, marks and buffer to a packed answer.
+    type Call = fn(u64, &[u8], &[u8], u64, &[u8], &mut [u8]) -> u64;
+
+    fn by_model(
+        reserve: u64,
+        cluster: &[u8],
+        plan: &[u8],
+        step: u64,
+        marks: &[u8],
+        out: &mut [u8],
+    ) -> u64 {
+        pack_stop(model::stop(reserve, cluster, plan, step, marks, out))
+    }
+
+    pub fn stops() {
+        println!("\n| stop | record bytes | step | moves in it | library µs | model µs | ratio | baseline µs | ratio |");
+        println!("|---|{}", "--:|".repeat(8));
+        for halt in halts() {
+            verify(&halt);
+            let out = RefCell::new(vec![0; halt.input.cluster.len()]);
+            let call = |call: Call| {
+                let (input, out) = (&halt.input, &mut out.borrow_mut()[..]);
+                let (cluster, plan) = (black_box(&input.cluster), black_box(&input.plans[1]));
+                call(
+                    black_box(input.reserve),
+                    cluster,
+                    plan,
+                    halt.step,
+                    black_box(&halt.marks),
+                    out,
+                )
+            };
+            let times = measure([&|| call(stop), &|| call(by_model), &|| call(baseline::stop)]);
+            let [library, plain, simple] = times.map(|time| time.nanos / 1e3);
+            println!(
+                "| {} | {} | {} | {} | {library:.2} | {plain:.2} | {:.2} | {simple:.2} | {:.2} |",
+                halt.name,
+                halt.input.cluster.len(),
+                halt.step,
+                halt.marks.len(),
+                library / plain,
+                library / simple
+            );
+        }
+    }
+
+    /// Stops unless library, baseline and model agree on all that is measured, and baseline and model on
+    /// other stops.
+    pub fn agree() {
+        let halts = halts();
+        halts.iter().for_each(verify);
+        println!("library, baseline and model agree on {} stops", halts.len());
+        println!("baseline and model agree on {} more", verify_baseline());
+    }
+
+    fn verify(halt: &Halt) {
+        let Halt { name, input, step, marks } = halt;
+        let ask = Ask { step: *step, marks: marks.clone(), buffer: input.cluster.len() };
+        let [model, library, simple] = [by_model as Call, stop, baseline::stop]
+            .map(|call| answer(call, input.reserve, &input.cluster, &input.plans[1], &ask));
+        expect(model.0 >> 62 == 0, name, "the model refuses it");
+        expect(library == model, name, "the library differs");
+        expect(simple == model, name, "the baseline differs");
+    }
+
+    /// What a call gives, and the buffer after it.
+    fn answer(call: Call, reserve: u64, cluster: &[u8], plan: &[u8], ask: &Ask) -> (u64, Vec<u8>) {
+        let mut out = vec![7; ask.buffer];
+        (call(reserve, cluster, plan, ask.step, &ask.marks, &mut out), out)
+    }
+
+    /// Compares the baseline with the model on other stops; how many.
+    fn verify_baseline() -> usize {
+        let mut compared = 0;
+        let mut compare = |reserve: u64, cluster: &[u8], plan: &[u8], ask: &Ask| {
+            let [model, simple] = [by_model as Call, baseline::stop]
+                .map(|call| answer(call, reserve, cluster, plan, ask));
+            expect(simple == model, "a generated stop", "the baseline differs");
+            compared += 1;
+        };
+        stop_edges().iter().for_each(|e| compare(e.reserve, &e.cluster, &e.plan, &e.ask));
+        let mut rng = Rng::new(3);
+        for case in cases(2, 10_000) {
+            let ask = some_stop(&mut rng, &case.cluster, &case.plan);
+            compare(0, &case.cluster, &case.plan, &ask);
+        }
+        let mut rooms = Rng::new(4);
+        for room in (0..50).map(|_| streams::large(&mut rooms)) {
+            let (plan, _) = &room.plans[0];
+            compare(0, &room.cluster, plan, &some_stop(&mut rng, &room.cluster, plan));
+        }
+        compared
+    }
 }
 
 // ---------------------------------------------------------------- the planner

@@ -1,0 +1,41 @@
+use Rattle.stop.proofs.Laws.Promised.{accepted-cluster, accepted-plan, stops-refused, stops-on}
+use borrow.Author.Needs.{needs}
+use Rattle.stop.proofs.stopping.outcome_of.Statement.{statement}
+use Rattle.stop.proofs.stopping.outcome_of.Tie as tie
+use Rattle.stop.proofs.stopping.outcome_of.Reads as reads
+use Rattle.stop.proofs.stopping.outcome_of.Lts as lts
+use Rattle.rules.proofs.verdict_on.Reads as verdict-on-reads
+use Rattle.stop.proofs.stopping.stop_accepted.Reads as stop-accepted-reads
+
+verdict-on-requires : tie.Need-verdict-on-requires
+verdict-on-requires c κs = search needs
+
+enum-known-verdict : tie.Need-enum-known-verdict
+enum-known-verdict c = search needs
+
+enum-told : tie.Need-enum-told
+enum-told c = search needs
+
+stop-accepted-requires : tie.Need-stop-accepted-requires
+stop-accepted-requires c κs = (search (needs, accepted-cluster), search (needs, accepted-plan))
+
+returns : tie.Need-returns
+returns c = search (needs, stops-refused)
+
+same-length : tie.Need-same-length
+same-length c = search needs
+
+returns-2 : tie.Need-returns-2
+returns-2 c = search (needs, stops-on)
+
+pub outcome-of-spec : {M : Type 1} → statement M
+outcome-of-spec =
+    tie.close
+    (tie.spec
+    verdict-on-requires
+    enum-known-verdict
+    enum-told
+    stop-accepted-requires
+    returns
+    same-length
+    returns-2)
