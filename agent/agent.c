@@ -1,8 +1,9 @@
-/* A small agent: plans for a cluster, has the plan checked, and writes it; and writes the cluster anew when a plan
- * was stopped.
+/* A small agent: plans for a cluster, has the plan checked, and writes it; writes the cluster anew when a plan was
+ * stopped; and divides a plan into single moves.
  *
  *     agent [--keep-blocked] [--reserve PERCENT] CLUSTER PLAN-OUT
  *     agent --stop STEP MARKS [--reserve PERCENT] CLUSTER PLAN CLUSTER-OUT
+ *     agent --split [--reserve PERCENT] CLUSTER PLAN PLAN-OUT
  *
  * CLUSTER is a file with a cluster record. PLAN-OUT gets the plan record, if there is a plan; with
  * --keep-blocked also the steps made before the planner was blocked. PERCENT, decimal digits, is kept free on
@@ -19,11 +20,16 @@
  * then is. PERCENT is the reserve that the plan was made at, and the planner must take that record at it before it
  * is written; plan anew from CLUSTER-OUT. A line says what came of it.
  *
+ * With --split: PLAN is a file with a plan record, and PLAN-OUT gets the same plan with one move to a step. PERCENT
+ * is the reserve that the plan was made at, and the checker must accept the divided plan at it before it is written.
+ * A line says what came of it.
+ *
  * Exit status:
- *   0  a plan was made and written; the cluster record was written
+ *   0  a plan was made and written; the cluster record, or the divided plan, was written
  *   1  blocked: the planner found no next step (this does not say that no plan exists)
  *   2  refused: the reserve is too high, the cluster record is damaged, or its target cannot be; of a stop also
- *      for what is wrong with the plan, the step or the marks
+ *      for what is wrong with the plan, the step or the marks; of a split for what is wrong with the plan, or if it
+ *      has too many moves
  *   3  wrong use, or a file that cannot be read or written
  *   5  the library's calls disagree: a fault of the library; nothing is written
  */
@@ -34,16 +40,17 @@
 
 #include <kobdrieft.h>
 
-enum status { PLANNED = 0, STOPPED = 0, BLOCKED = 1, REFUSED = 2, USE_OR_FILE = 3, DISAGREE = 5 };
+enum status { PLANNED = 0, STOPPED = 0, DIVIDED = 0, BLOCKED = 1, REFUSED = 2, USE_OR_FILE = 3, DISAGREE = 5 };
 
 /* One more than a record's bytes and a step's moves may be, so that what is longer gets the library's number. */
 #define LENT_MOST (KOB_MAX_CLUSTER_BYTES + 1)
 #define MARKS_MOST (KOB_MAX_STEP_MOVES + 1)
 
 struct options {
-    const char *files[3]; /* CLUSTER and PLAN-OUT, or CLUSTER, PLAN and CLUSTER-OUT */
+    const char *files[3]; /* CLUSTER and PLAN-OUT, or CLUSTER, PLAN and CLUSTER-OUT or PLAN-OUT */
     uint64_t reserve;
     int keep_blocked;
+    int split;
     int stop;
     uint64_t step;
     uint8_t marks[MARKS_MOST];
@@ -65,7 +72,8 @@ struct built {
 static int usage(void)
 {
     fprintf(stderr, "usage: agent [--keep-blocked] [--reserve PERCENT] CLUSTER PLAN-OUT\n"
-                    "       agent --stop STEP MARKS [--reserve PERCENT] CLUSTER PLAN CLUSTER-OUT\n");
+                    "       agent --stop STEP MARKS [--reserve PERCENT] CLUSTER PLAN CLUSTER-OUT\n"
+                    "       agent --split [--reserve PERCENT] CLUSTER PLAN PLAN-OUT\n");
     return USE_OR_FILE;
 }
 
@@ -114,6 +122,8 @@ static int parse(int argc, char **argv, struct options *options)
     for (int i = 1; i < argc; i++) {
         if (strcmp(argv[i], "--keep-blocked") == 0)
             options->keep_blocked = 1;
+        else if (strcmp(argv[i], "--split") == 0)
+            options->split = 1;
         else if (strcmp(argv[i], "--reserve") == 0 && percent == NULL && i + 1 < argc)
             percent = argv[++i];
         else if (strcmp(argv[i], "--stop") == 0 && i + 2 < argc && parse_stop(options, argv[i + 1], argv[i + 2]))
@@ -125,7 +135,8 @@ static int parse(int argc, char **argv, struct options *options)
     }
     if (percent == NULL)
         percent = "0";
-    if (!digits(percent) || count != (options->stop ? 3 : 2) || (options->stop && options->keep_blocked))
+    if (!digits(percent) || count != (options->stop || options->split ? 3 : 2)
+        || options->keep_blocked + options->stop + options->split > 1)
         return 0;
     options->reserve = number_in(percent);
     return 1;
@@ -346,6 +357,88 @@ static int make_stop(const struct options *options, const struct record *cluster
     return kob_outcome_of(result) == KOB_REFUSED ? end_refused(result) : end_stopped(options, &left);
 }
 
+/* ---- splitting */
+
+/* The moves of all steps of a plan. */
+static unsigned moves_in(const struct record *plan)
+{
+    kob_reader reader;
+    unsigned moves, all = 0;
+    kob_read_start(&reader, plan->bytes, plan->len);
+    while (kob_read_step(&reader, &moves))
+        all += moves;
+    return all;
+}
+
+/* Whether this move stands next, in a step of its own. */
+static int next_is(kob_reader *reader, unsigned vm, unsigned source, unsigned destination)
+{
+    unsigned moves, its_vm, its_source, its_destination;
+    return kob_read_step(reader, &moves) && moves == 1
+           && kob_read_move_from(reader, &its_vm, &its_source, &its_destination) && its_vm == vm
+           && its_source == source && its_destination == destination;
+}
+
+/* Whether a record has the moves of a plan, one after the other, and no more. */
+static int divides(const struct record *plan, const struct record *divided)
+{
+    kob_reader reader, after;
+    unsigned moves, vm, source, destination;
+    kob_read_start(&reader, plan->bytes, plan->len);
+    if (divided->len == 0 || !kob_read_start(&after, divided->bytes, divided->len))
+        return 0;
+    while (kob_read_step(&reader, &moves))
+        while (kob_read_move_from(&reader, &vm, &source, &destination))
+            if (!next_is(&after, vm, source, destination))
+                return 0;
+    return !kob_read_step(&after, &moves);
+}
+
+/* Whether the checker says what it must of a split: of the plan, and of what it was divided into. */
+static int split_agrees(uint64_t reserve, const struct record *cluster, const struct record *plan, uint64_t result,
+                        const struct record *divided)
+{
+    uint64_t verdict = kob_check(reserve, cluster->bytes, cluster->len, plan->bytes, plan->len);
+    int accepted = kob_outcome_of(verdict) == KOB_ACCEPTED;
+    switch (kob_refusal_number(result)) {
+    case 0:
+        return accepted && result == ((uint64_t)moves_in(plan) << 44 | kob_cost(result)) && divides(plan, divided)
+               && kob_cost(verdict) <= kob_cost(result)
+               && kob_check(reserve, cluster->bytes, cluster->len, divided->bytes, divided->len) == kob_cost(result);
+    case KOB_FAULT_BUFFER_SHORT: /* it is not */
+    case KOB_FAULT_NO_STEP: /* this and the next two are for a stop */
+    case KOB_FAULT_MARK:
+    case KOB_FAULT_STOP_BUFFER:
+        return 0;
+    case KOB_FAULT_PLAN_SHAPE: /* that of the divided plan, or found by both */
+        return accepted ? moves_in(plan) > KOB_MAX_STEPS : verdict == result;
+    default: /* what is wrong with reserve, cluster and plan is found by both */
+        return verdict == result;
+    }
+}
+
+static int end_divided(const struct options *options, uint64_t result, const struct record *divided)
+{
+    const char *path = options->files[2];
+    if (!write_record(path, divided->bytes, divided->len))
+        return USE_OR_FILE;
+    printf("agent: divided: steps %u, cost %" PRIu64 "; written to %s\n", kob_split_steps(result), kob_cost(result),
+           path);
+    return DIVIDED;
+}
+
+/* Writes and says what a plan was divided into. */
+static int make_split(const struct options *options, const struct record *cluster, const struct record *plan)
+{
+    static struct record divided;
+    uint64_t result = kob_split(options->reserve, cluster->bytes, cluster->len, plan->bytes, plan->len, divided.bytes,
+                                KOB_SPLIT_BUFFER);
+    divided.len = kob_plan_length(divided.bytes) <= KOB_SPLIT_BUFFER ? kob_plan_length(divided.bytes) : 0;
+    if (!split_agrees(options->reserve, cluster, plan, result, &divided))
+        return end_disagree("split and checker", result);
+    return kob_outcome_of(result) == KOB_REFUSED ? end_refused(result) : end_divided(options, result, &divided);
+}
+
 /* ---- */
 
 /* The status, unless what was printed got lost. */
@@ -360,15 +453,15 @@ static int printed(int status)
 
 int main(int argc, char **argv)
 {
-    static struct record cluster, under_way;
+    static struct record cluster, plan;
     static struct options options;
     if (!parse(argc, argv, &options))
         return usage();
     if (!read_record(options.files[0], &cluster))
         return USE_OR_FILE;
-    if (!options.stop)
+    if (!options.stop && !options.split)
         return printed(make_plan(&options, &cluster));
-    if (!read_record(options.files[1], &under_way))
+    if (!read_record(options.files[1], &plan))
         return USE_OR_FILE;
-    return printed(make_stop(&options, &cluster, &under_way));
+    return printed(options.stop ? make_stop(&options, &cluster, &plan) : make_split(&options, &cluster, &plan));
 }

@@ -1,8 +1,10 @@
-/* Kobdrieft: plans VM migrations in a small cluster, checks such plans, and says where a stopped one leaves it.
+/* Kobdrieft: plans VM migrations in a small cluster, checks such plans, says where a stopped one leaves it, and
+ * divides them into single moves.
  *
- * Three calls, all in libkobdrieft.a: `kobdrieft_build` makes a plan, `kobdrieft_check` gives the verdict on
- * one, and `kobdrieft_stop` writes the cluster record anew when one was stopped in the middle. Each takes any
- * reserve and any bytes whatever, and returns one number; the functions below take it apart, and read the plan.
+ * Four calls, all in libkobdrieft.a: `kobdrieft_build` makes a plan, `kobdrieft_check` gives the verdict on one,
+ * `kobdrieft_stop` writes the cluster record anew when one was stopped in the middle, and `kobdrieft_split` divides
+ * the steps of one into single moves. Each takes any reserve and any bytes whatever, and returns one number; the
+ * functions below take it apart, and read the plan.
  *
  * Reserve. The percent that is kept free on each node, 0 to KOB_MAX_RESERVE; every other number of 64 bits is
  * refused with 23, whatever else is wrong. A node's usable memory and usable CPU are each its capacity *
@@ -25,17 +27,25 @@
  * blocked. A node that was within its usable memory before the plan is within it there, and so for CPU; spread
  * mates that were apart are apart.
  *
+ * Splitting. All moves of a step may run side by side. Where links are thin, `kobdrieft_split` writes an accepted
+ * plan anew with one move to a step, step after step and by VM number within each, so that one move runs at a
+ * time. At the same reserve `kobdrieft_check` accepts what is written, at the cost told, which is never lower than
+ * the plan's own. A program may also divide by itself: an accepted plan is accepted, at no lower cost, when the
+ * moves of its steps are divided among several steps in a row, however divided and in any order of these, as long
+ * as each has at least one move and its VMs rise, and no more than KOB_MAX_STEPS steps result. A divided plan is a
+ * plan like any other: where it is the one under way, it is the one to lend to `kobdrieft_stop`.
+ *
  * Pointers. The caller guarantees that each pointer is not NULL and readable for its length, `out` also
  * writable; that `out` overlaps nothing of `cluster`, `plan` and `marks`; and that nobody else writes to what is
  * lent, or reads `out`, during the call. All but `out` is only read, and may overlap. A length of 0 needs a
- * pointer too: use kob_check, kob_build and kob_stop, which take any pointer then, NULL included.
+ * pointer too: use kob_check, kob_build, kob_stop and kob_split, which take any pointer then, NULL included.
  *
  * Threads. There is no state: any number of threads may call at once, each with an `out` of its own.
  *
  * Stack. Measured on full clusters, x86-64: `kobdrieft_check` takes 34,575 bytes (512 steps), `kobdrieft_stop`
- * 34,655 (stopped in step 1, and in step 512), `kobdrieft_build` 122,559 (1 step) and 122,471 (500 steps): it does
- * not grow with the steps. Give a thread KOB_CHECK_STACK, KOB_STOP_STACK or KOB_BUILD_STACK, and what it needs
- * itself.
+ * 34,655 (stopped in step 1, and in step 512), `kobdrieft_split` 34,671 (512 moves, and 1,024, which it refuses),
+ * `kobdrieft_build` 122,559 (1 step) and 122,471 (500 steps): it does not grow with the steps. Give a thread
+ * KOB_CHECK_STACK, KOB_STOP_STACK, KOB_SPLIT_STACK or KOB_BUILD_STACK, and what it needs itself.
  *
  * No call allocates, does I/O, or calls anything but memcpy, memmove, memset and memcmp.
  */
@@ -46,13 +56,14 @@
 #include <stdint.h>
 
 /* Grows whenever this interface changes, or what its calls answer. */
-#define KOBDRIEFT_VERSION 8
+#define KOBDRIEFT_VERSION 9
 
-/* The three names as they are in the archive. They carry the version, so a program compiled with the header of
+/* The four names as they are in the archive. They carry the version, so a program compiled with the header of
  * another version does not link. */
-#define kobdrieft_check kobdrieft_check_v8
-#define kobdrieft_build kobdrieft_build_v8
-#define kobdrieft_stop kobdrieft_stop_v8
+#define kobdrieft_check kobdrieft_check_v9
+#define kobdrieft_build kobdrieft_build_v9
+#define kobdrieft_stop kobdrieft_stop_v9
+#define kobdrieft_split kobdrieft_split_v9
 
 #ifdef __cplusplus
 extern "C" {
@@ -79,6 +90,15 @@ uint64_t kobdrieft_stop(uint64_t reserve, const uint8_t *cluster, size_t cluster
                         size_t plan_len, uint64_t step, const uint8_t *marks, size_t marks_len, uint8_t *out,
                         size_t out_len);
 
+/* Writes an accepted plan with every step divided into single moves. What `kobdrieft_check` refuses is refused
+ * alike, before `out` is looked at; then it is 10 if `out` has under KOB_SPLIT_BUFFER bytes, whatever the plan needs,
+ * then 14 if the plan has more than KOB_MAX_STEPS moves, since each becomes a step. Else the divided plan stands as a
+ * plan record at the front of `out`, of the version of the plan lent, and the bytes behind it are as they were; a
+ * plan of 0 bytes becomes a header of version 2 with 0 steps. The moves are those of the plan in its order, sources
+ * included. A refusal changes no byte. */
+uint64_t kobdrieft_split(uint64_t reserve, const uint8_t *cluster, size_t cluster_len, const uint8_t *plan,
+                         size_t plan_len, uint8_t *out, size_t out_len);
+
 #ifdef __cplusplus
 }
 #endif
@@ -96,10 +116,12 @@ uint64_t kobdrieft_stop(uint64_t reserve, const uint8_t *cluster, size_t cluster
 #define KOB_MAX_PLAN_BYTES 4103      /* in version 2; 3,079 in version 1 */
 #define KOB_BUILD_BUFFER 2562        /* `kobdrieft_build` refuses a shorter `out` */
 #define KOB_BUILD_VERSION 2          /* of the plan record that `kobdrieft_build` writes */
+#define KOB_SPLIT_BUFFER 2567        /* `kobdrieft_split` refuses a shorter `out` */
 
 #define KOB_CHECK_STACK (40 * 1024)  /* `kobdrieft_check` takes less than this */
 #define KOB_BUILD_STACK (128 * 1024) /* `kobdrieft_build` takes less than this */
 #define KOB_STOP_STACK (40 * 1024)   /* `kobdrieft_stop` takes less than this */
+#define KOB_SPLIT_STACK (40 * 1024)  /* `kobdrieft_split` takes less than this */
 
 /* ---- places */
 
@@ -121,8 +143,9 @@ typedef enum {
     KOB_ACCEPTED = 0, /* kobdrieft_check: the plan is good */
     KOB_PLAN = 0,     /* kobdrieft_build: the plan brings every VM to its target */
     KOB_STOPPED = 0,  /* kobdrieft_stop: the cluster record is written */
+    KOB_DIVIDED = 0,  /* kobdrieft_split: the divided plan is written */
     KOB_BLOCKED = 1,  /* kobdrieft_build: the steps made are sound, but the planner found no next one */
-    KOB_REFUSED = 2   /* all three: see the number */
+    KOB_REFUSED = 2   /* all four: see the number */
 } kob_outcome;
 
 static inline kob_outcome kob_outcome_of(uint64_t result)
@@ -142,19 +165,26 @@ static inline unsigned kob_refusal_step(uint64_t result)
     return kob_outcome_of(result) == KOB_REFUSED ? (unsigned)(result & 0xffff) : 0;
 }
 
-/* The steps that were built; 0 if refused. */
+/* The steps that were built; 0 if refused. Of `kobdrieft_build` only. */
 static inline unsigned kob_steps(uint64_t result)
 {
     return kob_outcome_of(result) == KOB_REFUSED ? 0 : (unsigned)(result >> 53 & 0x1ff);
 }
 
-/* The moves in these steps; 0 if refused. */
+/* The moves in these steps; 0 if refused. Of `kobdrieft_build` only. */
 static inline unsigned kob_moves(uint64_t result)
 {
     return kob_outcome_of(result) == KOB_REFUSED ? 0 : (unsigned)(result >> 44 & 0x1ff);
 }
 
-/* The cost of the plan checked, or of the steps made; 0 if refused. */
+/* The steps of a divided plan, which are the moves of the plan lent, up to KOB_MAX_STEPS; 0 if refused. Of
+ * `kobdrieft_split` only: it has them in other bits than kob_steps reads. */
+static inline unsigned kob_split_steps(uint64_t result)
+{
+    return kob_outcome_of(result) == KOB_REFUSED ? 0 : (unsigned)(result >> 44 & 0x3ff);
+}
+
+/* The cost of the plan checked, of the steps made, or of the divided plan; 0 if refused. */
 static inline uint64_t kob_cost(uint64_t result)
 {
     return kob_outcome_of(result) == KOB_REFUSED ? 0 : result & (((uint64_t)1 << 44) - 1);
@@ -180,11 +210,11 @@ typedef enum {
     KOB_FAULT_CONSTRAINT = 7,
     KOB_FAULT_TARGET_OVERFULL = 8,
     KOB_FAULT_TARGET_BROKEN = 9,
-    KOB_FAULT_BUFFER_SHORT = 10, /* kobdrieft_build only; those below: kobdrieft_check and kobdrieft_stop */
+    KOB_FAULT_BUFFER_SHORT = 10, /* kobdrieft_build, and kobdrieft_split behind 19; those below: all but build */
     KOB_FAULT_PLAN_SHORT = 11,
     KOB_FAULT_PLAN_VERSION = 12,
     KOB_FAULT_PLAN_LENGTH = 13,
-    KOB_FAULT_PLAN_SHAPE = 14,
+    KOB_FAULT_PLAN_SHAPE = 14, /* kobdrieft_split also behind 10: more than 512 steps would result */
     KOB_FAULT_MISNAMED = 15,
     KOB_FAULT_ELSEWHERE = 27, /* of a plan of version 2 only; tested between 15 and 16 */
     KOB_FAULT_FORBIDDEN = 16,
@@ -247,6 +277,14 @@ static inline uint64_t kob_stop(uint64_t reserve, const uint8_t *cluster, size_t
                           out_len);
 }
 
+/* `kobdrieft_split`, but with a length of 0 its pointer is not looked at and may be NULL. */
+static inline uint64_t kob_split(uint64_t reserve, const uint8_t *cluster, size_t cluster_len,
+                                 const uint8_t *plan, size_t plan_len, uint8_t *out, size_t out_len)
+{
+    return kobdrieft_split(reserve, kob_lent(cluster, cluster_len), cluster_len, kob_lent(plan, plan_len),
+                           plan_len, kob_lent_out(out, out_len), out_len);
+}
+
 /* ---- numbers in records */
 
 /* The number in so many bytes, at most 4, big-endian. */
@@ -259,8 +297,8 @@ static inline uint32_t kob_number(const uint8_t *bytes, unsigned count)
 }
 
 /* The whole length that a plan record's header states; 5 bytes must be readable. After `kobdrieft_build` made
- * a plan or was blocked it is the length of the record in `out`. Do not ask it of what a refusal left: of zeros
- * it gives 0, and 0 bytes are a plan of no steps. */
+ * a plan or was blocked, or `kobdrieft_split` divided one, it is the length of the record in `out`. Do not ask it of
+ * what a refusal left: of zeros it gives 0, and 0 bytes are a plan of no steps. */
 static inline size_t kob_plan_length(const uint8_t *record)
 {
     return kob_number(record + 1, 4);

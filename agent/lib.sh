@@ -1,7 +1,7 @@
 #!/usr/bin/env bash
-# Makes what a C program needs, from librules.a, libplanner.a and libstop.a in STATICLIB-DIR:
+# Makes what a C program needs, from librules.a, libplanner.a, libstop.a and libsplit.a in STATICLIB-DIR:
 #     agent/lib.sh STATICLIB-DIR OUT-DIR
-# OUT-DIR/libkobdrieft.a has the three functions under names that carry the header's version, and every other name hidden;
+# OUT-DIR/libkobdrieft.a has the four functions under names that carry the header's version, and every other name hidden;
 # OUT-DIR/kobdrieft.h is agent/kobdrieft.h with the texts of docs/REFUSALS.md in it. Both are put there when both are good.
 # Status 3 for wrong use, 4 if something is missing or not as it must be.
 set -euo pipefail
@@ -25,14 +25,14 @@ needs() {
   done
 }
 
-# ---- the three names
+# ---- the four names
 
 # What a name is defined as in the header.
 defined() { # NAME
   awk -v name="$1" '$1 == "#define" && $2 == name { print $3 }' "$header" || fail "awk cannot read $header"
 }
 
-# They are made of the version in the header, which must map kobdrieft_check, kobdrieft_build and kobdrieft_stop to them.
+# They are made of the version in the header, which must map kobdrieft_check, kobdrieft_build, kobdrieft_stop and kobdrieft_split to them.
 set_names() {
   local version name
   version=$(defined KOBDRIEFT_VERSION)
@@ -40,7 +40,8 @@ set_names() {
   check=kobdrieft_check_v$version
   build=kobdrieft_build_v$version
   stop=kobdrieft_stop_v$version
-  for name in "$check" "$build" "$stop"; do
+  split=kobdrieft_split_v$version
+  for name in "$check" "$build" "$stop" "$split"; do
     [ "$(defined "${name%_v*}")" = "$name" ] || fail "$header must have the line #define ${name%_v*} $name once: its version is $version"
   done
 }
@@ -60,12 +61,12 @@ object() { # ARCHIVE NAME NEW-NAME
 given() { nm -g --defined-only "$1" | awk 'NF == 3 { print $3 }' | sort; }
 taken() { nm -g --undefined-only "$1" | awk 'NF == 2 { print $2 }' | sort -u; }
 
-# The three names and no other; nothing is called but the four memory functions.
+# The four names and no other; nothing is called but the four memory functions.
 as_said() { # ARCHIVE
   local names name
   names=$(given "$1") || fail "nm cannot read $1"
-  [ "$names" = "$build"$'\n'"$check"$'\n'"$stop" ] ||
-    fail "the archive must define $build, $check and $stop alone; it defines: ${names//$'\n'/ }"
+  [ "$names" = "$build"$'\n'"$check"$'\n'"$split"$'\n'"$stop" ] ||
+    fail "the archive must define $build, $check, $split and $stop alone; it defines: ${names//$'\n'/ }"
   names=$(taken "$1") || fail "nm cannot read $1"
   for name in $names; do
     case $name in
@@ -79,7 +80,9 @@ archive() {
   object "$libs/librules.a" check "$check"
   object "$libs/libplanner.a" build "$build"
   object "$libs/libstop.a" stop "$stop"
-  ar rcsD "$work/libkobdrieft.a" "$work/$check.o" "$work/$build.o" "$work/$stop.o" || fail "ar cannot write the archive"
+  object "$libs/libsplit.a" split "$split"
+  ar rcsD "$work/libkobdrieft.a" "$work/$check.o" "$work/$build.o" "$work/$stop.o" "$work/$split.o" ||
+    fail "ar cannot write the archive"
   as_said "$work/libkobdrieft.a"
 }
 
@@ -136,7 +139,7 @@ headers() {
 [ $# -eq 2 ] || fail "usage: agent/lib.sh STATICLIB-DIR OUT-DIR" 3
 libs=$1
 out=$2
-needs "$libs/librules.a" "$libs/libplanner.a" "$libs/libstop.a" "$header" "$refusals"
+needs "$libs/librules.a" "$libs/libplanner.a" "$libs/libstop.a" "$libs/libsplit.a" "$header" "$refusals"
 set_names
 mkdir -p -- "$out" || fail "cannot make $out"
 work=$(mktemp -d -- "$out/.lib.XXXXXX") || fail "cannot write in $out"

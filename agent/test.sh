@@ -15,12 +15,13 @@ examples=$here/../examples
 work=$(mktemp -d)
 trap 'rm -rf "$work"' EXIT
 
-# The interface's version, and the three names that carry it.
-version=8
+# The interface's version, and the four names that carry it.
+version=9
 check=kobdrieft_check_v$version
 build=kobdrieft_build_v$version
 stop=kobdrieft_stop_v$version
-three=$build$'\n'$check$'\n'$stop
+split=kobdrieft_split_v$version
+four=$build$'\n'$check$'\n'$split$'\n'$stop
 
 cc=${CC:-cc}
 cxx=${CXX:-c++}
@@ -86,8 +87,8 @@ names() {
   nm -g --defined-only "$1" | awk 'NF == 3 { print $3 }' | sort
 }
 
-exports_three() {
-  [ "$(names "$archive")" = "$three" ]
+exports_four() {
+  [ "$(names "$archive")" = "$four" ]
 }
 
 # No byte that can be written, so no state.
@@ -95,7 +96,7 @@ no_data() {
   size "$archive" | awk 'NR > 1 && $2 + $3 > 0 { bad = 1 } END { exit bad }'
 }
 
-# takes_only NAME: whether a program that calls one of the three does not get the others too.
+# takes_only NAME: whether a program that calls one of the four does not get the others too.
 takes_only() {
   echo "void $1(void); int main(void) { $1(); }" >"$work/one.c"
   "$cc" "$work/one.c" "${link[@]}" "$link_strict" -o "$work/one" || return
@@ -110,7 +111,7 @@ unlinked() {
   ! LC_ALL=C "$cc" "$@" -o "$work/unlinked" 2>"$work/said" && cat "$work/said" && grep undefined "$work/said" | grep -qw "$name"
 }
 
-# without_header NAME PARAMETERS ARGUMENTS: whether a program that declares one of the three by itself, under its name in C, does not
+# without_header NAME PARAMETERS ARGUMENTS: whether a program that declares one of the four by itself, under its name in C, does not
 # link.
 without_header() {
   printf '#include <stddef.h>\n#include <stdint.h>\nuint64_t %s(%s);\nint main(void) { return %s(%s) == 0; }\n' \
@@ -121,7 +122,7 @@ without_header() {
 # without_version NAME CALL: whether a program with the header, which links, does not link with an archive of names without a version.
 without_version() {
   mkdir -p "$work/plain-names"
-  printf 'int %s(void) { return 0; }\n' kobdrieft_check kobdrieft_build kobdrieft_stop >"$work/names.c"
+  printf 'int %s(void) { return 0; }\n' kobdrieft_check kobdrieft_build kobdrieft_stop kobdrieft_split >"$work/names.c"
   printf '#include <kobdrieft.h>\nint main(void) { return %s == 0; }\n' "$2" >"$work/call.c"
   "$cc" -c "$work/names.c" -o "$work/names.o" && ar rc "$work/plain-names/libkobdrieft.a" "$work/names.o" &&
     "$cc" "${strict[@]}" -c "$work/call.c" -o "$work/call.o" && "$cc" "$work/call.o" "${link[@]}" -o "$work/call" &&
@@ -135,12 +136,13 @@ shared() {
 
 archives() {
   expect "it calls only memory functions" only_memory
-  expect "it exports $build, $check and $stop alone" exports_three
+  expect "it exports $build, $check, $split and $stop alone" exports_four
   expect "it has no data" no_data
   expect "the header's version is $version" grep -x "#define KOBDRIEFT_VERSION $version" "$libs/kobdrieft.h"
   expect "a program that only checks" takes_only "$check"
   expect "a program that only plans" takes_only "$build"
   expect "a program that only stops" takes_only "$stop"
+  expect "a program that only splits" takes_only "$split"
   expect "a check without header and reserve" without_header kobdrieft_check 'const uint8_t *, size_t, const uint8_t *, size_t' \
     'NULL, 0, NULL, 0'
   expect "a build without header and reserve" without_header kobdrieft_build 'const uint8_t *, size_t, uint8_t *, size_t' \
@@ -148,9 +150,12 @@ archives() {
   expect "a stop without header and reserve" without_header kobdrieft_stop \
     'const uint8_t *, size_t, const uint8_t *, size_t, uint64_t, const uint8_t *, size_t, uint8_t *, size_t' \
     'NULL, 0, NULL, 0, 1, NULL, 0, NULL, 0'
+  expect "a split without header and reserve" without_header kobdrieft_split \
+    'const uint8_t *, size_t, const uint8_t *, size_t, uint8_t *, size_t' 'NULL, 0, NULL, 0, NULL, 0'
   expect "a check by an archive without versions" without_version "$check" 'kob_check(0, NULL, 0, NULL, 0)'
   expect "a build by an archive without versions" without_version "$build" 'kob_build(0, NULL, 0, NULL, 0)'
   expect "a stop by an archive without versions" without_version "$stop" 'kob_stop(0, NULL, 0, NULL, 0, 1, NULL, 0, NULL, 0)'
+  expect "a split by an archive without versions" without_version "$split" 'kob_split(0, NULL, 0, NULL, 0, NULL, 0)'
   expect "a shared object" shared
   group "archive"
 }
@@ -210,7 +215,7 @@ library() {
   "$cc" -c "$work/$1.c" -o "$work/$1.o" && rm -f "$tree/static/lib$1.a" && ar rc "$tree/static/lib$1.a" "$work/$1.o"
 }
 
-# The small repository as it should be; all three archives have a function `helper`.
+# The small repository as it should be; all four archives have a function `helper`.
 plant() {
   rm -rf "$tree"
   mkdir -p "$tree/agent" "$tree/docs" "$tree/static"
@@ -218,7 +223,8 @@ plant() {
   cp "$refusals" "$tree/docs/"
   library rules 'int helper(void) { return 1; } int check(void) { return helper(); }'
   library planner 'int helper(void) { return 2; } int build(void) { return helper(); }'
-  library stop 'int helper(void) { return 3; } int check(void) { return 4; } int stop(void) { return helper(); }'
+  library stop 'int helper(void) { return 3; } int check(void) { return 9; } int stop(void) { return helper(); }'
+  library split 'int helper(void) { return 4; } int check(void) { return 9; } int split(void) { return helper(); }'
 }
 
 lib() {
@@ -243,14 +249,15 @@ refuses() {
     [ "$(ls -A "$tree/out")" = libkobdrieft.a ] && [ "$(cat "$tree/out/libkobdrieft.a")" = before ]
 }
 
-# Where a program has a `helper` too, all four are called.
+# Where a program has a `helper` too, all five are called.
 helpers_apart() {
   cat >"$work/helpers.c" <<END
 int $check(void);
 int $build(void);
 int $stop(void);
-int helper(void) { return 4; }
-int main(void) { return $check() == 1 && $build() == 2 && $stop() == 3 && helper() == 4 ? 0 : 1; }
+int $split(void);
+int helper(void) { return 5; }
+int main(void) { return $check() == 1 && $build() == 2 && $stop() == 3 && $split() == 4 && helper() == 5 ? 0 : 1; }
 END
   "$cc" "$work/helpers.c" -L "$tree/out" -lkobdrieft -o "$work/helpers" && "$work/helpers"
 }
@@ -271,7 +278,7 @@ lib_archives() {
   plant
   expect "lib.sh makes two files" makes
   expect "lib.sh makes them again" makes
-  expect "names of the three archives keep apart" helpers_apart
+  expect "names of the four archives keep apart" helpers_apart
   for tool in ld objcopy ar nm awk; do
     plant
     expect "no $tool" refuses "'$tool' is not on the PATH" without "$tool"
@@ -283,10 +290,14 @@ lib_archives() {
   expect "no libplanner.a" refuses 'libplanner.a is missing' lib
   plant && rm "$tree/static/libstop.a"
   expect "no libstop.a" refuses 'libstop.a is missing' lib
+  plant && rm "$tree/static/libsplit.a"
+  expect "no libsplit.a" refuses 'libsplit.a is missing' lib
   plant && library rules 'int checks(void) { return 1; }'
-  expect "no check in librules.a" refuses "must define $build, $check and $stop alone" lib
-  plant && library stop 'int stops(void) { return 1; } int check(void) { return 4; }'
-  expect "no stop in libstop.a" refuses "must define $build, $check and $stop alone" lib
+  expect "no check in librules.a" refuses "must define $build, $check, $split and $stop alone" lib
+  plant && library stop 'int stops(void) { return 1; } int check(void) { return 9; }'
+  expect "no stop in libstop.a" refuses "must define $build, $check, $split and $stop alone" lib
+  plant && library split 'int splits(void) { return 1; } int check(void) { return 9; }'
+  expect "no split in libsplit.a" refuses "must define $build, $check, $split and $stop alone" lib
   plant && library planner 'int puts(const char *); int build(void) { return puts(""); }'
   expect "a planner that prints" refuses 'calls puts' lib
   plant && library rules '#include <string.h>
@@ -295,6 +306,8 @@ int check(void *a, void *b) { return memcpy(a, b, 99) == a; }'
   plant && library stop '#include <stdlib.h>
 int stop(void) { void *room = malloc(9); free(room); return room != NULL; }'
   expect "a stop that allocates" refuses 'the archive calls ' lib
+  plant && library split 'int check(void); int split(void) { return check(); }'
+  expect "a split that lacks its check" refuses 'calls check' lib
   expect "lib.sh with one argument" wrong_use
 }
 
@@ -327,9 +340,13 @@ lib_names() {
   edited $header "s/^\\(#define kobdrieft_stop\\) .*/\\1 $check/" "$line kobdrieft_stop $stop once"
   edited $header '/^#define kobdrieft_stop /d' "$line kobdrieft_stop $stop once"
   edited $header '/^#define kobdrieft_stop /p' "$line kobdrieft_stop $stop once"
+  edited $header 's/^#define kobdrieft_split .*/&0/' "$line kobdrieft_split $split once"
+  edited $header "s/^\\(#define kobdrieft_split\\) .*/\\1 $stop/" "$line kobdrieft_split $split once"
+  edited $header '/^#define kobdrieft_split /d' "$line kobdrieft_split $split once"
+  edited $header '/^#define kobdrieft_split /p' "$line kobdrieft_split $split once"
   plant && sed -i 's/^\(#define KOBDRIEFT_VERSION \).*/\1987/; s/^\(#define kobdrieft_.*_v\).*/\1987/' "$tree/$header"
   expect "another version" makes
-  expect "the names of another version" test "$(names "$tree/out/libkobdrieft.a")" = "${three//_v$version/_v987}"
+  expect "the names of another version" test "$(names "$tree/out/libkobdrieft.a")" = "${four//_v$version/_v987}"
 }
 
 lib_texts() {
@@ -400,6 +417,7 @@ builds() {
   program "$label" test_reserve test_reserve.c test_common.c -- "$@"
   program "$label" test_before test_before.c test_common.c -- "$@"
   program "$label" test_stop test_stop.c test_common.c test_pages.c -- "$@"
+  program "$label" test_split test_split.c test_common.c test_pages.c -- "$@"
   program "$label" test_names test_names.c test_common.c -- "$@"
   group "$label: built without a warning"
 }
@@ -443,6 +461,7 @@ static bool refuses_nothing()
            && kob_refusal_number(kob_check(0, nullptr, 0, nullptr, 0)) == KOB_FAULT_CLUSTER_SHORT
            && kob_refusal_number(kob_stop(0, nullptr, 0, nullptr, 0, 1, nullptr, 0, out, sizeof out))
                   == KOB_FAULT_CLUSTER_SHORT
+           && kob_refusal_number(kob_split(0, nullptr, 0, nullptr, 0, out, sizeof out)) == KOB_FAULT_CLUSTER_SHORT
            && kob_fault_text(KOB_FAULT_CLUSTER_SHORT)[0] != 0;
 }
 
@@ -452,6 +471,8 @@ static bool refuses_a_reserve()
     return kob_refusal_number(kobdrieft_build(KOB_MAX_RESERVE + 1, bytes, 1, out, 1)) == KOB_FAULT_RESERVE
            && kob_refusal_number(kobdrieft_check(KOB_MAX_RESERVE + 1, bytes, 1, out, 1)) == KOB_FAULT_RESERVE
            && kob_refusal_number(kobdrieft_stop(KOB_MAX_RESERVE + 1, bytes, 1, bytes, 1, 1, bytes, 1, out, 1))
+                  == KOB_FAULT_RESERVE
+           && kob_refusal_number(kobdrieft_split(KOB_MAX_RESERVE + 1, bytes, 1, bytes, 1, out, 1))
                   == KOB_FAULT_RESERVE;
 }
 
@@ -502,10 +523,14 @@ files() {
   record "$work/plan" '02 00000016 0003 0001 00 00 02 0001 01 01 00 0001 00 02 01'
   record "$work/stuck" "01 00000028 0003 0002 0000 $nodes 0000010064 $vms"
   record "$work/five" "01 00000028 0003 0002 0000 0000050064 0000050064 0000050064 $vms"
+  record "$work/both" '01 0000000d 0001 0002 00 01 01 00'
+  record "$work/singles" '01 0000000f 0002 0001 00 01 0001 01 00'
   record "$work/half" '01 0000002f 0003 0003 0000 0000040064 0000020064 0000010064
     000002000a 02 00 000002000a 01 00 000002000a 00 01'
   record "$work/half-plan" '02 0000000c 0001 0001 00 02 00'
   record "$work/no-steps" '02 00000007 0000'
+  record "$work/no-steps-1" '01 00000007 0000'
+  record "$work/home" "01 00000028 0003 0002 0000 $nodes 0000040064 0000030032 01 01 0000020032 00 00"
   record "$work/damaged" "01 00000028 0003 0002 0000 $nodes 0000040064 0000000032 00 01 0000020032 01 00"
   record "$work/overfull" "01 00000028 0003 0002 0000 0000010064 0000040064 0000040064 $vms"
   padded "$work/long" "01 00000028 0003 0002 0000 $nodes 0000040064 $vms" 70000
@@ -525,13 +550,13 @@ says() {
   [ "$status" -eq "$wanted" ] && grep -qF -- "$text" "$work/said"
 }
 
-# keeps STATUS TEXT ARGUMENT...: the same, and PLAN-OUT, or CLUSTER-OUT, stays as it was.
+# keeps STATUS TEXT ARGUMENT...: the same, and the file to be written, behind the arguments, stays as it was.
 keeps() {
   echo before >"$work/kept"
   says "$@" "$work/kept" && [ "$(cat "$work/kept")" = before ]
 }
 
-# writes STATUS TEXT RECORD ARGUMENT...: the same, and PLAN-OUT, or CLUSTER-OUT, is then that record.
+# writes STATUS TEXT RECORD ARGUMENT...: the same, and the file is then that record.
 writes() {
   local wanted=$1 text=$2 record=$3
   shift 3
@@ -705,7 +730,6 @@ stopped_as() {
 
 agent_stops() {
   local example
-  record "$work/both" '01 0000000d 0001 0002 00 01 01 00'
   expect "A, step 1 ended" stopped 04 '02 01' 'step 1, 1 of 1 moves ended' --stop 1 1 "$work/a" "$work/plan"
   expect "A, step 1 called back" stopped 04 '00 01' 'step 1, 0 of 1 moves ended' --stop 1 0 "$work/a" "$work/plan"
   expect "A, step 3 called back" stopped 04 '02 00' 'step 3, 0 of 1 moves ended' --stop 3 0 "$work/a" "$work/plan"
@@ -819,6 +843,126 @@ agent_stop_use() {
   fi
 }
 
+# What the agent said of a split, as the examples have it.
+split_line() {
+  sed -E 's/^agent: divided: (steps [0-9]+), (cost [0-9]+); .*/divided \1 \2/
+    s/^agent: refused, number ([0-9]+), step ([0-9]+); .*/refused \1 step \2/
+    s/^agent: refused, number ([0-9]+); .*/refused \1 step 0/' "$1"
+}
+
+# divided_as EXPECTED: whether the agent says of an example's plan what this file has, and writes its record or, if refused, nothing.
+# EXPECTED is NAME.split or NAME.reserve-R.split, or such a .verdict, a refusal.
+divided_as() {
+  local name after=${1%.split}.single options=(--split) status wanted=0
+  name=$(basename "${1%.*}")
+  if [[ $name =~ ^(.+)\.reserve-([0-9]+)$ ]]; then
+    name=${BASH_REMATCH[1]}
+    options+=(--reserve "${BASH_REMATCH[2]}")
+  fi
+  echo before | tee "$work/kept" >"$work/got"
+  "$agent" "${options[@]}" "$examples/$name.cluster" "$examples/$name.plan" "$work/got" >"$work/said"
+  status=$?
+  grep -q '^refused' "$1" && wanted=2 after=$work/kept
+  [ "$status" -eq "$wanted" ] && split_line "$work/said" | diff "$1" - && cmp "$work/got" "$after"
+}
+
+agent_splits() {
+  local example
+  expect "A's plan" writes 0 "agent: divided: steps 3, cost 16; written to $work/got" "$work/plan" --split "$work/a" "$work/plan"
+  expect "both at once" writes 0 'divided: steps 2, cost 8; written' "$work/singles" --split "$work/five" "$work/both"
+  expect "one after the other" writes 0 'divided: steps 2, cost 8; ' "$work/singles" --split "$work/five" "$work/singles"
+  expect "at reserve 25" writes 0 'divided: steps 3, cost 16; ' "$work/plan" --reserve 25 --split "$work/a" "$work/plan"
+  expect "the reserve behind" writes 0 'divided: steps 3, cost 16; ' "$work/plan" --split --reserve 25 "$work/a" "$work/plan"
+  expect "options behind" divided_behind
+  expect "over the plan record itself" divided_over
+  expect "no steps" writes 0 'divided: steps 0, cost 0; ' "$work/no-steps" --split "$work/home" "$work/no-steps"
+  expect "no steps in version 1" writes 0 'divided: steps 0, cost 0; ' "$work/no-steps-1" --split "$work/home" "$work/no-steps-1"
+  expect "an empty plan" writes 0 'divided: steps 0, cost 0; ' "$work/no-steps" --split "$work/home" "$work/empty"
+  expect "what was planned" divided_planned
+  expect "512 moves and more" divided_many "$work/many"
+  expect "one line" divided_line
+  for example in "$examples"/*.split "$examples"/*.verdict; do
+    grep -q '^accepted' "$example" || expect "$example" divided_as "$example"
+  done
+  agent_split_refusals
+  agent_split_use
+}
+
+# The options may stand behind the files.
+divided_behind() {
+  echo before >"$work/got"
+  says 0 'divided: steps 2, cost 8; ' "$work/five" "$work/both" "$work/got" --reserve 0 --split && cmp "$work/got" "$work/singles"
+}
+
+# PLAN-OUT may be PLAN: it is read before it is written.
+divided_over() {
+  cp "$work/both" "$work/over-itself"
+  says 0 'divided: steps 2' --split "$work/five" "$work/over-itself" "$work/over-itself" && cmp "$work/over-itself" "$work/singles"
+}
+
+# A plan that was built has its sources, and keeps them.
+divided_planned() {
+  record "$work/sources" '02 00000011 0002 0001 00 00 01 0001 01 01 00'
+  says 0 'plan: steps 1, moves 2, cost 5' "$work/five" "$work/made" &&
+    writes 0 'divided: steps 2, cost 8; ' "$work/sources" --split "$work/five" "$work/made"
+}
+
+# 256 VMs go aside and home: 512 moves. With one more move of VM 0 they are too many.
+divided_many() {
+  local vms aside home after
+  vms=$(printf '0000010000 00 01 %.0s' {1..256})
+  aside=$(printf '%02x 02 ' {0..255})
+  home=$(printf '%02x 01 ' {0..255})
+  after=$(printf '0001 %02x 02 ' {0..255})$(printf '0001 %02x 01 ' {0..255})
+  record "$1" "01 0000071a 0003 0100 0000 0010000000 0010000000 0010000000 $vms"
+  record "$1-plan" "01 0000040b 0002 0100 $aside 0100 $home"
+  record "$1-after" "01 00000807 0200 $after"
+  record "$1-more" "01 0000040f 0003 0001 00 01 0100 $aside 0100 $home"
+  writes 0 'divided: steps 512, cost 131328; ' "$1-after" --split "$1" "$1-plan" &&
+    keeps 2 "agent: refused, number 14; nothing written. $(text_of 14)" --split "$1" "$1-more"
+}
+
+divided_line() {
+  "$agent" --split "$work/five" "$work/both" "$work/got" >"$work/said" && [ "$(wc -l <"$work/said")" -eq 1 ]
+}
+
+agent_split_refusals() {
+  expect "a step refused" keeps 2 "agent: refused, number 17, step 1; nothing written. $(text_of 17)" --split "$work/a" "$work/both"
+  expect "the same at reserve 1" keeps 2 'refused, number 17, step 1; ' --reserve 1 --split "$work/five" "$work/both"
+  expect "an incomplete plan" keeps 2 "agent: refused, number 19; nothing written. $(text_of 19)" --split "$work/half" "$work/half-plan"
+  expect "no plan" keeps 2 'refused, number 19; ' --split "$work/a" "$work/empty"
+  expect "no step" keeps 2 'refused, number 19; ' --split "$work/a" "$work/no-steps"
+  expect "another cluster" keeps 2 'refused, number 27, step 1; ' --split "$work/home" "$work/plan"
+  expect "a damaged cluster" keeps 2 'refused, number 6; ' --split "$work/damaged" "$work/plan"
+  expect "an empty cluster" keeps 2 'refused, number 1; ' --split "$work/empty" "$work/plan"
+  expect "files swapped" keeps 2 'refused, number 5; ' --split "$work/plan" "$work/a"
+  expect "a cluster as plan" keeps 2 'refused, number 14; ' --split "$work/a" "$work/a"
+  expect "a plan of 70,000 bytes" keeps 2 'refused, number 13; ' --split "$work/a" "$work/long"
+  expect "reserve 26" keeps 2 'refused, number 8; ' --reserve 26 --split "$work/a" "$work/plan"
+  expect "reserve 91" keeps 2 "agent: refused, number 23; nothing written. $(text_of 23)" --reserve 91 --split "$work/empty" "$work/empty"
+}
+
+agent_split_use() {
+  expect "two files" keeps 3 'usage: ' --split "$work/a"
+  expect "four files" keeps 3 'usage: ' --split "$work/a" "$work/plan" "$work/got"
+  expect "no file" says 3 'usage: ' --split
+  expect "blocked steps of a split" keeps 3 'usage: ' --keep-blocked --split "$work/a" "$work/plan"
+  expect "a split of a stop" keeps 3 'usage: ' --split --stop 1 1 "$work/a" "$work/plan"
+  expect "a stop of a split" keeps 3 'usage: ' --stop 1 1 --split "$work/a" "$work/plan"
+  expect "a word behind it" keeps 3 'usage: ' --split=1 "$work/a" "$work/plan"
+  expect "no percent" says 3 'usage: ' --split "$work/a" "$work/plan" "$work/got" --reserve
+  expect "percents" keeps 3 'usage: ' --split --reserve 10% "$work/a" "$work/plan"
+  expect "a missing cluster" keeps 3 "cannot read $work/nowhere" --split "$work/nowhere" "$work/plan"
+  expect "a missing plan" keeps 3 "cannot read $work/nowhere" --split "$work/a" "$work/nowhere"
+  expect "a folder as plan" keeps 3 'cannot read' --split "$work/a" "$work"
+  expect "no folder to write to" says 3 'cannot write' --split "$work/a" "$work/plan" "$work/nowhere/plan"
+  if [ -c /dev/full ]; then
+    expect "a full disk" says 3 'cannot write' --split "$work/a" "$work/plan" /dev/full
+    expect "nowhere to print a divided plan" unheard --split "$work/a" "$work/plan"
+    expect "nowhere to print its refusal" unheard --split "$work/a" "$work/both"
+  fi
+}
+
 agents() {
   agent=$work/$1/agent
   agent_moves
@@ -828,15 +972,21 @@ agents() {
   group "$1: agent"
   agent_stops
   group "$1: agent, stops"
+  agent_splits
+  group "$1: agent, splits"
 }
 
-# disagrees NUMBER TEXT ARGUMENT...: the agent with a library that is wrong in this way.
+# wrong_library NUMBER: the agent with a library that is wrong in this way.
+wrong_library() {
+  agent=$work/wrong
+  expect "wrong library $1" "$cc" "${strict[@]}" "${sanitize[@]}" -DWRONG="$1" "$here/agent.c" "$here/test_wrong.c" -o "$agent"
+}
+
+# disagrees NUMBER TEXT ARGUMENT...: what it says then.
 disagrees() {
   local number=$1
   shift
-  agent=$work/wrong
-  expect "wrong library $number" "$cc" "${strict[@]}" "${sanitize[@]}" -DWRONG="$number" "$here/agent.c" \
-    "$here/test_wrong.c" -o "$agent"
+  wrong_library "$number"
   expect "disagreement $number" keeps 5 "$@"
 }
 
@@ -847,6 +997,11 @@ wrong() {
   done
   for i in {21..36}; do
     disagrees "$i" 'stop, checker and planner disagree' --reserve 25 --stop 1 1 "$work/a" "$work/plan"
+  done
+  wrong_library 40
+  expect "nothing wrong" writes 0 'divided: steps 2, cost 8; ' "$work/singles" --reserve 1 --split "$work/five" "$work/both"
+  for i in {41..67}; do
+    disagrees "$i" 'split and checker disagree' --reserve 1 --split "$work/five" "$work/both"
   done
   group "disagreement"
 }
@@ -860,7 +1015,7 @@ builds sanitized "${sanitize[@]}"
 more_builds
 cplusplus
 for label in plain sanitized; do
-  for name in test_names test_header test_reader test_reserve test_before test_stop; do
+  for name in test_names test_header test_reader test_reserve test_before test_stop test_split; do
     run "$label" "$work/$label/$name"
   done
 done

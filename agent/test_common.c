@@ -42,6 +42,11 @@ uint64_t made(unsigned outcome, unsigned steps, unsigned moves, uint64_t cost)
     return (uint64_t)outcome << 62 | (uint64_t)steps << 53 | (uint64_t)moves << 44 | cost;
 }
 
+uint64_t divided(unsigned steps, uint64_t cost)
+{
+    return (uint64_t)steps << 44 | cost;
+}
+
 int all_are(const uint8_t *bytes, size_t len, uint8_t value)
 {
     for (size_t i = 0; i < len; i++)
@@ -66,6 +71,13 @@ uint8_t *filled(size_t len)
         exit(1);
     memset(bytes, FILL, len);
     return bytes;
+}
+
+int alone(const struct fenced *fenced, const uint8_t *buffer, const uint8_t *wanted, size_t len)
+{
+    size_t before = (size_t)(buffer - fenced->front);
+    return memcmp(buffer, wanted, len) == 0 && all_are(fenced->front, before, FILL)
+           && all_are(buffer + len, fenced->size - before - len, FILL);
 }
 
 /* ---- A */
@@ -144,6 +156,16 @@ void set(struct record *record, const uint8_t *bytes, size_t len)
     record->len = len;
 }
 
+int same(const struct record *one, const struct record *other)
+{
+    return one->len == other->len && memcmp(one->bytes, other->bytes, one->len) == 0;
+}
+
+size_t current_at(const struct record *cluster, uint32_t vm)
+{
+    return 11 + 5 * kob_number(cluster->bytes + 5, 2) + 7 * vm + 5;
+}
+
 void constrain(struct record *cluster, const uint8_t *constraint, size_t len)
 {
     memcpy(cluster->bytes + cluster->len, constraint, len);
@@ -174,6 +196,28 @@ void put_move(struct record *plan, uint32_t vm, uint32_t source, uint32_t destin
     put(plan, 1, destination);
 }
 
+void plain_version(struct record *plain, const struct record *plan)
+{
+    kob_reader reader;
+    unsigned moves, vm, destination;
+    put_plan(plain, 1, kob_number(plan->bytes + 5, 2));
+    kob_read_start(&reader, plan->bytes, plan->len);
+    while (kob_read_step(&reader, &moves)) {
+        put(plain, 2, moves);
+        while (kob_read_move(&reader, &vm, &destination))
+            put_move(plain, vm, 0, destination);
+    }
+    finish(plain);
+}
+
+const struct record *a_with(uint8_t memory)
+{
+    static struct record cluster;
+    set(&cluster, cluster_a, sizeof cluster_a);
+    cluster.bytes[13] = cluster.bytes[18] = cluster.bytes[23] = memory;
+    return &cluster;
+}
+
 /* ---- records from texts */
 
 uint32_t place(char character)
@@ -194,6 +238,13 @@ void put_text_room(struct record *cluster, const char *vms)
     finish(cluster);
 }
 
+const struct record *room_of(const char *vms)
+{
+    static struct record room;
+    put_text_room(&room, vms);
+    return &room;
+}
+
 void put_text_plan(struct record *plan, uint32_t version, const char *steps)
 {
     put_plan(plan, version, 0);
@@ -205,6 +256,27 @@ void put_text_plan(struct record *plan, uint32_t version, const char *steps)
             put_move(plan, place(steps[0]), place(steps[1]), place(steps[2]));
     }
     finish(plan);
+}
+
+int put_versions(struct record *room, struct record *plan, const struct record *cluster, const char *steps,
+                 unsigned way)
+{
+    set(room, cluster->bytes, cluster->len);
+    room->bytes[0] = (uint8_t)(room->bytes[0] + way / 2);
+    put_text_plan(plan, 1 + way % 2, steps);
+    return room->bytes[0] <= 2;
+}
+
+void put_all_kinds(struct record *cluster)
+{
+    static const uint8_t ban[] = {0, 6, 1, 0, 1, 2, 1, 1}, bounds[] = {0, 8, 2, 0, 1, 0, 3, 0, 1, 2};
+    static const uint8_t spread[] = {0, 5, 3, 0, 2, 0, 1}, latency[] = {0, 11, 4, 0, 2, 0, 1, 2, 2, 1, 2, 1, 0};
+    put_text_room(cluster, "01 12 20");
+    constrain(cluster, ban, sizeof ban);
+    constrain(cluster, bounds, sizeof bounds);
+    constrain(cluster, spread, sizeof spread);
+    constrain(cluster, latency, sizeof latency);
+    put_before(cluster, 1, 0);
 }
 
 /* ---- records with a fault */
@@ -269,13 +341,47 @@ struct answers ask(uint64_t reserve, const struct record *cluster, const struct 
     answers.right = kob_outcome_of(answers.built) != KOB_REFUSED || all_are(out, out_len, FILL);
     memset(out, FILL, out_len);
     uint64_t stopped = kobdrieft_stop(reserve, c, cluster->len, p, plan->len, 0, c, 0, out, out_len);
+    uint64_t split = kobdrieft_split(reserve, c, cluster->len, p, plan->len, out, out_len);
+    int bad = kob_outcome_of(answers.verdict) == KOB_REFUSED;
     answers.right = answers.right && all_are(out, out_len, FILL)
-                    && stopped == (kob_outcome_of(answers.verdict) == KOB_REFUSED ? answers.verdict : refused(20, 0))
+                    && stopped == (bad ? answers.verdict : refused(20, 0))
+                    && split == (bad ? answers.verdict : refused(10, 0))
                     && memcmp(c, cluster->bytes, cluster->len) == 0 && memcmp(p, plan->bytes, plan->len) == 0;
     free(c);
     free(p);
     free(out);
     return answers;
+}
+
+void expect_checked_first(int (*alike)(uint64_t reserve, const struct record *cluster, const struct record *plan,
+                                       unsigned number), const char *later)
+{
+    static struct record cluster, plan;
+    static const unsigned more[] = {KOB_FAULT_ELSEWHERE, KOB_FAULT_BEFORE};
+    char what[100];
+    set(&plan, plan_a, sizeof plan_a);
+    snprintf(what, sizeof what, "1 to 9 before %s", later);
+    for (unsigned number = 1; number <= KOB_FAULT_TARGET_BROKEN; number++) {
+        put_cluster_fault(&cluster, number);
+        expect(alike(0, &cluster, &plan, number), what);
+        expect(alike(KOB_MAX_RESERVE + 1, &cluster, &plan, 23), "23 before 1 to 9");
+    }
+    snprintf(what, sizeof what, "11 to 19 before %s", later);
+    for (unsigned number = KOB_FAULT_PLAN_SHORT; number <= KOB_FAULT_OFF_TARGET; number++) {
+        put_plan_fault(&cluster, &plan, number);
+        expect(alike(0, &cluster, &plan, number), what);
+        expect(alike(KOB_MAX_RESERVE + 1, &cluster, &plan, 23), "23 before 11 to 19");
+    }
+    snprintf(what, sizeof what, "27 and 33 before %s", later);
+    for (size_t i = 0; i < 2; i++) {
+        put_plan_fault(&cluster, &plan, more[i]);
+        expect(alike(0, &cluster, &plan, more[i]), what);
+        expect(alike(KOB_MAX_RESERVE + 1, &cluster, &plan, 23), "23 before 27 and 33");
+    }
+    put_plan_fault(&cluster, &plan, 0);
+    for (size_t i = 0; i < RESERVES; i++)
+        if (reserves[i] > 25)
+            expect(alike(reserves[i], &cluster, &plan, reserves[i] > KOB_MAX_RESERVE ? 23 : 8), "8 and 23");
 }
 
 /* ---- damage */
@@ -296,7 +402,38 @@ void damage(uint8_t *bytes, size_t len)
         bytes[draw() % len] = draw() % 2 == 0 ? (uint8_t)draw() : (uint8_t)(draw() % 4);
 }
 
-/* ---- the full room and its plan */
+void damage_one(struct record *cluster, struct record *plan, int to_cluster)
+{
+    if (to_cluster)
+        damage(cluster->bytes, cluster->len);
+    else if (draw() % 2 == 0)
+        damage(plan->bytes, plan->len);
+}
+
+/* ---- drawn rooms */
+
+uint32_t draw_place(uint32_t nodes)
+{
+    return draw() % 7 == 0 ? KOB_NOWHERE : draw() % nodes;
+}
+
+void draw_room(struct record *cluster)
+{
+    static const uint8_t spread[] = {0, 5, 3, 0, 2, 0, 1};
+    uint32_t nodes = 2 + draw() % 4, vms = 2 + draw() % 5;
+    put_cluster(cluster, nodes, vms, 0);
+    cluster->bytes[0] = 2;
+    for (uint32_t i = 0; i < nodes; i++)
+        put_node(cluster, 5 + draw() % 15, 50 + draw() % 150);
+    for (uint32_t i = 0; i < vms; i++)
+        put_vm(cluster, 1 + draw() % 6, draw() % 3 == 0 ? 0 : draw() % 60, draw_place(nodes), draw_place(nodes));
+    finish(cluster);
+    constrain(cluster, spread, sizeof spread);
+    if (draw() % 3 == 0)
+        put_before(cluster, 1, 0);
+}
+
+/* ---- the full room and its plans */
 
 static void put_rising(struct record *cluster, uint32_t count)
 {
@@ -344,6 +481,27 @@ void full_plan(struct record *plan, uint32_t version)
         if (i < 258)
             put_move(plan, 1, 3 - to, 2 + to);
     }
+    finish(plan);
+}
+
+/* Rounds of all VMs, the last of perhaps fewer, aside and aside again; then all go home. A VM steps aside to the
+ * second node behind its own and to the third in turn, and is at home on the first. */
+void rounds(struct record *plan, uint32_t version, uint32_t moves)
+{
+    uint32_t left = moves - KOB_MAX_VMS, behind[KOB_MAX_VMS] = {0};
+    put_plan(plan, version, (left + KOB_MAX_VMS - 1) / KOB_MAX_VMS + 1);
+    for (uint32_t aside = 2; left > 0; aside = 5 - aside) {
+        uint32_t count = left < KOB_MAX_VMS ? left : KOB_MAX_VMS;
+        put(plan, 2, count);
+        for (uint32_t i = 0; i < count; i++) {
+            put_move(plan, i, (i + behind[i]) % 64, (i + aside) % 64);
+            behind[i] = aside;
+        }
+        left -= count;
+    }
+    put(plan, 2, KOB_MAX_VMS);
+    for (uint32_t i = 0; i < KOB_MAX_VMS; i++)
+        put_move(plan, i, (i + behind[i]) % 64, (i + 1) % 64);
     finish(plan);
 }
 

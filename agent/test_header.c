@@ -37,6 +37,16 @@ static void test_unpackers(void)
     expect(kob_length(refusal) == 0 && kob_length(refused(22, 0)) == 0, "a refusal has no length");
     expect(kob_steps(40) == 0 && kob_moves(40) == 0 && kob_refusal_number(40) == 0, "a stop has no steps");
     expect(KOB_MARK_STAYED == 0 && KOB_MARK_ENDED == 1, "the marks");
+    expect(kob_outcome_of(divided(512, most)) == KOB_DIVIDED, "outcome of a divided plan");
+    expect(kob_split_steps(divided(512, most)) == KOB_MAX_STEPS && kob_cost(divided(512, most)) == most, "512 steps");
+    expect(kob_split_steps(divided(511, 1)) == 511 && kob_cost(divided(511, 1)) == 1, "511 steps");
+    expect(kob_split_steps(divided(3, 16)) == 3 && kob_cost(divided(3, 16)) == 16, "3 steps");
+    expect(kob_split_steps(0) == 0 && kob_split_steps(most) == 0, "no steps");
+    expect(kob_split_steps(~(uint64_t)0 >> 2) == 1023, "ten bits of steps");
+    expect(kob_refusal_number(divided(512, most)) == 0 && kob_refusal_step(divided(512, most)) == 0,
+           "a divided plan has no refusal");
+    expect(kob_split_steps(refusal) == 0 && kob_split_steps(refused(255, 65535)) == 0, "a refusal has none to divide");
+    expect(KOB_SPLIT_BUFFER == 2567 && KOB_BUILD_BUFFER == 2562, "the least buffers for a plan");
     expect(KOB_FAULT_NO_STEP == 20 && KOB_FAULT_MARK == 21 && KOB_FAULT_STOP_BUFFER == 22, "20 to 22");
     expect(kob_plan_length(plan_a) == 22, "length in a header");
     expect(kob_plan_length((const uint8_t *)"\1\1\2\3\4") == 0x01020304, "length in big-endian");
@@ -62,7 +72,11 @@ static void test_texts(void)
             expect(strcmp(text, "Unknown number.") == 0, "no text for another number between 23 and 33");
     }
     expect(strstr(kob_fault_text(KOB_FAULT_CLUSTER_SHORT), "11 bytes") != NULL, "text 1");
-    expect(strstr(kob_fault_text(KOB_FAULT_BUFFER_SHORT), "2,562") != NULL, "text 10");
+    expect(strstr(kob_fault_text(KOB_FAULT_BUFFER_SHORT), "2,562") != NULL, "text 10, to build");
+    expect(strstr(kob_fault_text(KOB_FAULT_BUFFER_SHORT), "2,567") != NULL, "text 10, to split");
+    expect(strstr(kob_fault_text(KOB_FAULT_PLAN_SHAPE), "512 steps") != NULL, "text 14");
+    expect(strstr(kob_fault_text(KOB_FAULT_PLAN_SHAPE), "divided") != NULL
+               || strstr(kob_fault_text(KOB_FAULT_PLAN_SHAPE), "split") != NULL, "text 14, to split");
     expect(strstr(kob_fault_text(KOB_FAULT_OFF_TARGET), "target") != NULL, "text 19");
     expect(strstr(kob_fault_text(KOB_FAULT_NO_STEP), "step") != NULL, "text 20");
     expect(strstr(kob_fault_text(KOB_FAULT_MARK), "mark") != NULL, "text 21");
@@ -72,7 +86,7 @@ static void test_texts(void)
     expect(strstr(kob_fault_text(KOB_FAULT_BEFORE), "waits") != NULL, "text 33");
     expect(strcmp(kob_fault_text(256), "Unknown number.") == 0, "text of 256");
     expect(strcmp(kob_fault_text(~0u), "Unknown number.") == 0, "text of the largest number");
-    expect(KOBDRIEFT_VERSION == 8, "the interface's version");
+    expect(KOBDRIEFT_VERSION == 9, "the interface's version");
     group("texts");
 }
 

@@ -50,17 +50,6 @@ static const struct marks *marked(const char *digits)
     return &marks;
 }
 
-/* Where a cluster record has the current place of a VM. */
-static size_t current_at(const struct record *cluster, uint32_t vm)
-{
-    return 11 + 5 * kob_number(cluster->bytes + 5, 2) + 7 * vm + 5;
-}
-
-static int same(const struct record *one, const struct record *other)
-{
-    return one->len == other->len && memcmp(one->bytes, other->bytes, one->len) == 0;
-}
-
 /* Whether the planner takes a record, and the checker what it plans. */
 static int plans_again(uint64_t reserve, const struct record *cluster)
 {
@@ -93,15 +82,12 @@ static int leaves_at(uint64_t reserve, const struct record *cluster, const char 
 {
     static struct record room, plan, wanted;
     int good = 1;
-    set(&room, cluster->bytes, cluster->len);
-    for (; room.bytes[0] <= 2; room.bytes[0]++)
-        for (uint32_t version = 1; version <= 2; version++) {
-            put_text_plan(&plan, version, steps);
-            set(&wanted, room.bytes, room.len);
-            for (uint32_t vm = 0; places[vm] != '\0'; vm++)
-                wanted.bytes[current_at(&room, vm)] = (uint8_t)place(places[vm]);
-            good = good && writes(reserve, &room, &plan, step, marked(digits), &wanted);
-        }
+    for (unsigned way = 0; put_versions(&room, &plan, cluster, steps, way); way++) {
+        set(&wanted, room.bytes, room.len);
+        for (uint32_t vm = 0; places[vm] != '\0'; vm++)
+            wanted.bytes[current_at(&room, vm)] = (uint8_t)place(places[vm]);
+        good = good && writes(reserve, &room, &plan, step, marked(digits), &wanted);
+    }
     return good;
 }
 
@@ -132,25 +118,6 @@ static int gives(const struct record *cluster, const char *steps, uint64_t step,
     }
     return good;
 }
-
-/* A room from a text. */
-static const struct record *room_of(const char *vms)
-{
-    static struct record room;
-    put_text_room(&room, vms);
-    return &room;
-}
-
-/* A, with this memory on each node. */
-static const struct record *a_with(uint8_t memory)
-{
-    static struct record cluster;
-    set(&cluster, cluster_a, sizeof cluster_a);
-    cluster.bytes[13] = cluster.bytes[18] = cluster.bytes[23] = memory;
-    return &cluster;
-}
-
-#define STEPS_A "002 110 021"
 
 /* ---- what is left */
 
@@ -239,16 +206,9 @@ static void test_later_steps(void)
 /* Constraints of all kinds, whose bytes stay; those that wait are planned for again. */
 static void test_constraints(void)
 {
-    static const uint8_t ban[] = {0, 6, 1, 0, 1, 2, 1, 1}, bounds[] = {0, 8, 2, 0, 1, 0, 3, 0, 1, 2};
-    static const uint8_t spread[] = {0, 5, 3, 0, 2, 0, 1}, latency[] = {0, 11, 4, 0, 2, 0, 1, 2, 2, 1, 2, 1, 0};
     static struct record cluster;
     uint8_t out[KOB_BUILD_BUFFER];
-    cluster = *room_of("01 12 20");
-    constrain(&cluster, ban, sizeof ban);
-    constrain(&cluster, bounds, sizeof bounds);
-    constrain(&cluster, spread, sizeof spread);
-    constrain(&cluster, latency, sizeof latency);
-    put_before(&cluster, 1, 0);
+    put_all_kinds(&cluster);
     expect(leaves(&cluster, "112+220 001", 1, "00", "012"), "all kinds, none ended");
     expect(leaves(&cluster, "112+220 001", 1, "01", "010"), "all kinds, one ended");
     expect(leaves(&cluster, "112+220 001", 2, "1", "120"), "all kinds, all ended");
@@ -405,32 +365,6 @@ static int alike(uint64_t reserve, const struct record *cluster, const struct re
     return good;
 }
 
-static void test_checked_first(void)
-{
-    static struct record cluster, plan;
-    static const unsigned more[] = {KOB_FAULT_ELSEWHERE, KOB_FAULT_BEFORE};
-    set(&plan, plan_a, sizeof plan_a);
-    for (unsigned number = 1; number <= KOB_FAULT_TARGET_BROKEN; number++) {
-        put_cluster_fault(&cluster, number);
-        expect(alike(0, &cluster, &plan, number), "1 to 9 before 20 to 22");
-        expect(alike(KOB_MAX_RESERVE + 1, &cluster, &plan, 23), "23 before 1 to 9");
-    }
-    for (unsigned number = KOB_FAULT_PLAN_SHORT; number <= KOB_FAULT_OFF_TARGET; number++) {
-        put_plan_fault(&cluster, &plan, number);
-        expect(alike(0, &cluster, &plan, number), "11 to 19 before 20 to 22");
-        expect(alike(KOB_MAX_RESERVE + 1, &cluster, &plan, 23), "23 before 11 to 19");
-    }
-    for (size_t i = 0; i < 2; i++) {
-        put_plan_fault(&cluster, &plan, more[i]);
-        expect(alike(0, &cluster, &plan, more[i]), "27 and 33 before 20 to 22");
-        expect(alike(KOB_MAX_RESERVE + 1, &cluster, &plan, 23), "23 before 27 and 33");
-    }
-    put_plan_fault(&cluster, &plan, 0);
-    for (size_t i = 0; i < RESERVES; i++)
-        if (reserves[i] > 25)
-            expect(alike(reserves[i], &cluster, &plan, reserves[i] > KOB_MAX_RESERVE ? 23 : 8), "8 and 23");
-}
-
 /* A fault behind the step that the plan was stopped in counts too, with its own step. */
 static void test_fault_behind(void)
 {
@@ -578,44 +512,6 @@ static int together(const struct record *cluster)
 {
     uint8_t node = cluster->bytes[current_at(cluster, 0)];
     return node == cluster->bytes[current_at(cluster, 1)] && node != KOB_NOWHERE;
-}
-
-/* A place: a node, or seldom none. */
-static uint32_t draw_place(uint32_t nodes)
-{
-    return draw() % 7 == 0 ? KOB_NOWHERE : draw() % nodes;
-}
-
-/* A room of version 2 with 2 to 5 nodes and 2 to 6 VMs, of which the first two are to be apart. */
-static void draw_room(struct record *cluster)
-{
-    static const uint8_t spread[] = {0, 5, 3, 0, 2, 0, 1};
-    uint32_t nodes = 2 + draw() % 4, vms = 2 + draw() % 5;
-    put_cluster(cluster, nodes, vms, 0);
-    cluster->bytes[0] = 2;
-    for (uint32_t i = 0; i < nodes; i++)
-        put_node(cluster, 5 + draw() % 15, 50 + draw() % 150);
-    for (uint32_t i = 0; i < vms; i++)
-        put_vm(cluster, 1 + draw() % 6, draw() % 3 == 0 ? 0 : draw() % 60, draw_place(nodes), draw_place(nodes));
-    finish(cluster);
-    constrain(cluster, spread, sizeof spread);
-    if (draw() % 3 == 0)
-        put_before(cluster, 1, 0);
-}
-
-/* The same steps in version 1. */
-static void plain_version(struct record *plain, const struct record *plan)
-{
-    kob_reader reader;
-    unsigned moves, vm, destination;
-    put_plan(plain, 1, kob_number(plan->bytes + 5, 2));
-    kob_read_start(&reader, plan->bytes, plan->len);
-    while (kob_read_step(&reader, &moves)) {
-        put(plain, 2, moves);
-        while (kob_read_move(&reader, &vm, &destination))
-            put_move(plain, vm, 0, destination);
-    }
-    finish(plain);
 }
 
 struct seen {
@@ -799,9 +695,7 @@ static int stays(uint64_t reserve, const struct record *cluster, const struct re
         memset(out_fence.front, FILL, out_fence.size);
         good = good
                && kobdrieft_stop(reserve, c, cluster->len, p, plan->len, step, m, marks->len, out, out_len) == result;
-        size_t before = (size_t)(out - out_fence.front);
-        good = good && memcmp(out, plain, out_len) == 0 && all_are(out_fence.front, before, FILL)
-               && all_are(out + out_len, out_fence.size - before - out_len, FILL);
+        good = good && alone(&out_fence, out, plain, out_len);
     }
     free(plain);
     return good;
@@ -855,10 +749,7 @@ static void test_damaged(void)
             set(&plan, plan_a, sizeof plan_a);
         else
             set(&plan, turnover_plan, sizeof turnover_plan);
-        if (i % 4 / 2 == 0)
-            damage(cluster.bytes, cluster.len);
-        else if (draw() % 2 == 0)
-            damage(plan.bytes, plan.len);
+        damage_one(&cluster, &plan, i % 4 / 2 == 0);
         good = stays(reserve, &cluster, &plan, step, &marks, sizeof cluster_a - (size_t)(draw() % 16 == 0)) && good;
         uint64_t verdict = kob_check(reserve, cluster.bytes, cluster.len, plan.bytes, plan.len);
         uint64_t result = stop(reserve, &cluster, &plan, step, &marks, sizeof cluster_a)->result;
@@ -897,7 +788,7 @@ int main(void)
     test_no_steps();
     test_marks();
     test_buffers();
-    test_checked_first();
+    expect_checked_first(alike, "20 to 22");
     test_fault_behind();
     test_own_order();
     group("order of the numbers");

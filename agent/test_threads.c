@@ -77,6 +77,30 @@ static uint64_t stop_waiting(void)
                     ended, 1, stop_out, sizeof stop_out);
 }
 
+/* Splits of a plan of 512 moves, of the full plan, which has too many, and of what was built for VMs that wait. */
+static struct record two_rounds;
+
+static uint64_t split_plan(const struct record *cluster, const uint8_t *bytes, size_t len)
+{
+    static uint8_t out[KOB_SPLIT_BUFFER];
+    return kob_split(0, cluster->bytes, cluster->len, bytes, len, out, sizeof out);
+}
+
+static uint64_t split_rounds(void)
+{
+    return split_plan(&room, two_rounds.bytes, two_rounds.len);
+}
+
+static uint64_t split_full(void)
+{
+    return split_plan(&room, plan.bytes, plan.len);
+}
+
+static uint64_t split_waiting(void)
+{
+    return split_plan(&waiting_room, waiting_plan, kob_plan_length(waiting_plan));
+}
+
 static void *begin(void *argument)
 {
     struct call *call = argument;
@@ -163,12 +187,31 @@ static void test_stack_stopped(void)
     group("stack, stopped");
 }
 
+/* 512 moves of memory 1, one after the other, cost 1 + 2 + ... + 512. */
+#define SINGLE_COST 131328
+
+static void test_stack_split(void)
+{
+    struct call whole = {split_rounds, 0, NULL};
+    struct call full = {split_full, 0, NULL};
+    struct call waiting = {split_waiting, 0, NULL};
+    size_t use = stack_use(&whole), full_use = stack_use(&full), waiting_use = stack_use(&waiting);
+    expect(whole.result == divided(KOB_MAX_STEPS, SINGLE_COST), "512 moves are divided");
+    expect(full.result == refused(14, 0), "1,024 are not");
+    expect(waiting.result == divided(CHAIN_STEPS, kob_cost(long_result)), "the waiting chains are divided");
+    expect(use < KOB_SPLIT_STACK, "split keeps to its stack");
+    expect(full_use < KOB_SPLIT_STACK, "split keeps to its stack on the full plan");
+    expect(waiting_use < KOB_SPLIT_STACK, "split keeps to its stack with VMs that wait");
+    printf("stack used: split %zu bytes (%d moves), split %zu (1024 moves, refused)\n", use, KOB_MAX_STEPS, full_use);
+    group("stack, divided");
+}
+
 /* ---- threads */
 
 struct worker {
     pthread_t thread;
     uint64_t reserve;
-    uint8_t out[KOB_BUILD_BUFFER];
+    uint8_t out[KOB_SPLIT_BUFFER];
     uint8_t left[KOB_MAX_CLUSTER_BYTES];
     int right;
 };
@@ -203,11 +246,29 @@ static int full_stopped_right(uint32_t step, uint8_t *left)
     return result == room.len && kob_vm_current(left, room.len, 0, &node) && node == (step % 2 == 0 ? 1 : 0);
 }
 
-/* One round: plan, check and stop A, the chains and the full room. All threads read the same clusters. */
+/* A's plan divided, at a reserve; it has single moves and stays. */
+static int a_divided_right(uint64_t reserve, uint8_t *out)
+{
+    out[0] = FILL;
+    uint64_t result = kob_split(reserve, cluster_a, sizeof cluster_a, plan_a, sizeof plan_a, out, KOB_SPLIT_BUFFER);
+    if (reserve > 25)
+        return result == refused(reserve > KOB_MAX_RESERVE ? 23 : 8, 0) && out[0] == FILL;
+    return result == divided(3, 16) && memcmp(out, plan_a, sizeof plan_a) == 0;
+}
+
+/* 512 moves divided, and what is written checked. */
+static int full_divided_right(uint8_t *out)
+{
+    uint64_t result = kob_split(0, room.bytes, room.len, two_rounds.bytes, two_rounds.len, out, KOB_SPLIT_BUFFER);
+    return result == divided(KOB_MAX_STEPS, SINGLE_COST)
+           && kob_check(0, room.bytes, room.len, out, kob_plan_length(out)) == SINGLE_COST;
+}
+
+/* One round: plan, check, stop and divide A, the chains and the full room. All threads read the same clusters. */
 static int round_right(uint64_t reserve, uint8_t *out, uint8_t *left)
 {
-    int right = a_right(reserve, out) && a_stopped_right(reserve, left);
-    right = right && full_stopped_right(KOB_MAX_STEPS - (uint32_t)(reserve % 7), left);
+    int right = a_right(reserve, out) && a_stopped_right(reserve, left) && a_divided_right(reserve, out);
+    right = right && full_stopped_right(KOB_MAX_STEPS - (uint32_t)(reserve % 7), left) && full_divided_right(out);
     right = right && kob_build(0, long_room.bytes, long_room.len, out, KOB_BUILD_BUFFER) == long_result;
     uint64_t verdict = kob_check(0, long_room.bytes, long_room.len, out, kob_plan_length(out));
     return right && verdict == kob_cost(long_result) && check_full() == FULL_PLAN_COST;
@@ -243,6 +304,7 @@ int main(void)
 {
     full_room(&room);
     full_plan(&plan, 2);
+    rounds(&two_rounds, 2, KOB_MAX_STEPS);
     chains(&long_room);
     waiting_chains(&waiting_room);
     long_result = build_long();
@@ -251,6 +313,7 @@ int main(void)
     test_stack();
     test_stack_waiting();
     test_stack_stopped();
+    test_stack_split();
     test_threads();
     return status();
 }

@@ -193,6 +193,38 @@ expect 'stop of four' 3 '' 'kobdrieft: stop takes *' "$driver" stop 'cluster A' 
 expect 'stop: no such plan' 3 '' 'kobdrieft: no such file: plant.plan' "$driver" stop 'cluster A' plant.plan 1 1 ../none
 expect 'the stopping program: no arguments' 0 '' 'stopped: it takes a cluster file, *' "$root/target/bin/stopped"
 
+# a plan in single moves
+thin() { printf '%s' "$root/examples/thin-links.$1"; }
+expect 'divided' 0 'divided steps 4 cost 30' '' "$driver" split "$(thin cluster)" "$(thin plan)" ../single
+expect 'its record' 0 '' '' cmp "$(thin single)" ../single
+expect 'what it was' 0 'accepted cost 14' '' "$driver" check "$(thin cluster)" "$(thin plan)"
+expect 'what it is' 0 'accepted cost 30' '' "$driver" check "$(thin cluster)" ../single
+expect 'divided again' 0 'divided steps 4 cost 30' '' "$driver" split "$(thin cluster)" ../single ../again
+expect 'as it is' 0 '' '' cmp ../single ../again
+expect 'nothing to divide' 0 'divided steps 3 cost 16' '' "$driver" split 'cluster A' 'plan A' ../single
+expect 'version 2 is kept' 0 '' '' cmp 'plan A' ../single
+expect 'version 1 is kept' 0 'divided steps 3 cost 16' '' "$driver" split 'cluster A' plain ../single
+expect 'byte for byte' 0 '' '' cmp plain ../single
+expect 'an empty plan, divided' 0 'divided steps 0 cost 0' '' "$driver" split home empty ../single
+expect 'it becomes a header' 0 '' '' cmp none ../single
+expect 'a header of version 1, divided' 0 'divided steps 0 cost 0' '' "$driver" split home plain-none ../single
+expect 'it stays one' 0 '' '' cmp plain-none ../single
+expect 'divided with a reserve' 0 'divided steps 3 cost 16' '' "$driver" split --reserve 25 'cluster A' 'plan A' ../single
+expect '512 moves' 0 'divided steps 512 cost 131328' '' "$driver" split "$root/examples/most-moves.cluster" "$root/examples/most-moves.plan" ../single
+expect 'more moves' 2 'refused 14 step 0' 'kobdrieft: *512*' "$driver" split "$root/examples/more-moves.cluster" "$root/examples/more-moves.plan" ../undivided
+expect 'a refused plan, divided' 2 'refused 17 step 1' 'kobdrieft: In some order*' "$driver" split 'cluster A' both ../undivided
+expect 'divided with more than the most' 2 'refused 23 step 0' 'kobdrieft: *' "$driver" split --reserve 91 'cluster A' 'plan A' ../undivided
+expect 'an empty plan, VMs to move, divided' 2 'refused 19 step 0' 'kobdrieft: *' "$driver" split 'cluster A' empty ../undivided
+expect 'a long plan, divided' 2 'refused 14 step 0' 'kobdrieft: *' "$driver" split 'cluster A' honest ../undivided
+expect 'nothing is written of it' 1 '' '' test -e ../undivided
+expect 'divided over the cluster record' 3 '' 'kobdrieft: the divided plan would be written over the cluster record: *' "$driver" split 'cluster A' 'plan A' "$PWD/cluster A"
+expect 'divided over the plan record' 3 '' 'kobdrieft: the divided plan would be written over the plan record: *' "$driver" split 'cluster A' 'plan A' 'plan A'
+expect 'divided with no folder to write to' 3 '' 'divided: cannot write nowhere/plan: No such file or directory' "$driver" split 'cluster A' 'plan A' nowhere/plan
+expect 'split of two' 3 '' 'kobdrieft: split takes *' "$driver" split 'cluster A' 'plan A'
+expect 'split: no such plan' 3 '' 'kobdrieft: no such file: plant.plan' "$driver" split 'cluster A' plant.plan ../undivided
+expect 'split: a word too many' 3 '' 'kobdrieft: split does not take --single*' "$driver" split 'cluster A' 'plan A' --single
+expect 'the dividing program: no arguments' 0 '' 'divided: it takes a cluster file, *' "$root/target/bin/divided"
+
 # the plan record
 written() { "$driver" plan "$1" "$2" && od -An -v -tx1 "$2" | tr -d ' \n'; }
 kept() { # COMMAND.. OUT: what is in OUT behind a command that writes nothing
@@ -316,7 +348,8 @@ if [ "$1" = check ]; then
   chmod +x target/bin/plan target/bin/verdict
   cp target/bin/plan target/bin/plan_at
   cp target/bin/plan target/bin/stopped
-  for name in plan plan_at verdict stopped; do
+  cp target/bin/plan target/bin/divided
+  for name in plan plan_at verdict stopped divided; do
     : >"target/stamp/$name"
   done
 else
@@ -344,11 +377,11 @@ expect 'no cargo' 4 '' "kobdrieft: 'cargo' is not on the PATH: *" bare bench
 expect 'a file is looked at before a build' 3 '' 'kobdrieft: no such file: nothing' kit plan nothing
 expect 'nothing was built' 0 '' '' calls
 : >"$CALLS.break"
-expect 'a failed build' 4 '' '*about 3 minutes, once*rules NOT PROVED*kobdrieft: failed: rt check plan plan_at verdict stopped; the whole log is *' kit plan said
+expect 'a failed build' 4 '' '*about 3 minutes, once*rules NOT PROVED*kobdrieft: failed: rt check plan plan_at verdict stopped divided; the whole log is *' kit plan said
 rm -f "$CALLS.break" "$CALLS"
 expect 'first use' 0 'plan steps 0' "kobdrieft: proving and building the planner and the checker, about 3 minutes, once (log: $small/target/kobdrieft.log)" kit plan said
-expect 'one build' 0 'rt check plan plan_at verdict stopped' '' calls
-expect 'the log has it' 0 'rt check plan plan_at verdict stopped' '' cat "$small/target/kobdrieft.log"
+expect 'one build' 0 'rt check plan plan_at verdict stopped divided' '' calls
+expect 'the log has it' 0 'rt check plan plan_at verdict stopped divided' '' cat "$small/target/kobdrieft.log"
 expect 'second use' 0 'plan steps 0' '' kit plan said
 expect 'without the kit once built' 0 'plan steps 0' '' bare plan said
 expect 'no second build' 0 '' '' calls
@@ -358,17 +391,17 @@ rm "$small/target/stamp/plan"
 expect 'a program not seen to run' 0 'plan steps 0' '*proving and building*' kit plan said
 rm "$small/target/bin/verdict"
 expect 'a program missing' 0 'plan steps 0' '*proving and building*' kit check said said
-expect 'three builds' 0 "$(printf 'rt check plan plan_at verdict stopped\n%.0s' 1 2 3)" '' calls
+expect 'three builds' 0 "$(printf 'rt check plan plan_at verdict stopped divided\n%.0s' 1 2 3)" '' calls
 rm -r "$small/target"
 : >"$CALLS.slow"
 expect 'two first uses at once' 0 $'plan steps 0\nplan steps 0' '*another build is under way; waiting for it*' both_at_once
-expect 'one of them builds' 0 'rt check plan plan_at verdict stopped' '' calls
+expect 'one of them builds' 0 'rt check plan plan_at verdict stopped divided' '' calls
 rm "$CALLS.slow"
 expect 'a program that breaks off' 4 '' 'kobdrieft: * ended with status 4' env ENDS=4 PATH="$room/tools" "$small/kobdrieft" check said said
 expect 'a program with no answer' 3 '' '' bare check empty said
 expect 'lib' 0 '' '*proving and building the library*kobdrieft: */target/lib has libkobdrieft.a and kobdrieft.h' kit lib
 expect 'bench' 0 'cargo run in harness' 'kobdrieft: building the benchmark*' kit bench
-expect 'three archives' 0 $'rt staticlib rules\nrt staticlib planner\nrt staticlib stop' '' calls
+expect 'four archives' 0 $'rt staticlib rules\nrt staticlib planner\nrt staticlib stop\nrt staticlib split' '' calls
 expect 'only target/ written' 0 "$before" '' files "$small"
 
 # root reads every file, so as nobody

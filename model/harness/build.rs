@@ -1,5 +1,5 @@
-//! Links the library under test, libkobdrieft.a, which exports `kobdrieft_check_v8`,
-//! `kobdrieft_build_v8` and `kobdrieft_stop_v8`.
+//! Links the library under test, libkobdrieft.a, which exports `kobdrieft_check_v9`,
+//! `kobdrieft_build_v9`, `kobdrieft_stop_v9` and `kobdrieft_split_v9`.
 //!
 //! KOBDRIEFT_LIB_DIR is the directory it is in.
 

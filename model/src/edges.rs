@@ -3,6 +3,7 @@
 
 mod befores;
 mod reserves;
+mod splits;
 mod stops;
 
 use crate::planner::BUFFER;
@@ -13,6 +14,7 @@ use crate::records::{
 use crate::sources::{bare, named};
 
 pub use reserves::{a_with, over_usable};
+pub use splits::{split_edges, SplitEdge};
 pub use stops::{stop_edges, StopEdge};
 
 /// One input with its expected outcome. `check` is `None` for accepted, else number and step;

@@ -741,7 +741,7 @@ pub fn some_place(rng: &mut Rng, room: &Room, vm: usize) -> usize {
 }
 
 /// Goes through the VMs and keeps each random move that leaves the step sound.
-fn random_sound_step(
+pub(crate) fn random_sound_step(
     rng: &mut Rng,
     room: &Room,
     book: &Book,

@@ -1,8 +1,9 @@
-//! What the programs print for a plan, a verdict and a stop, and how numbers and marks are read.
+//! What the programs print for a plan, a verdict, a stop and a split, and how numbers and marks are read.
 
 use crate::planner::{build, Answer, BUFFER};
 use crate::records::{parse_plan, Version, PLAN_HEADER};
 use crate::rules::Verdict;
+use crate::split::{self, Split};
 use crate::stop::{stop, Stop};
 
 /// A line of counts and a line for each move, or the line of a refusal.
@@ -47,6 +48,19 @@ pub fn stopped(
     match stop(reserve, cluster, plan, step, marks, &mut out) {
         Stop::Done { length } => (format!("stopped length {length}\n"), Some(out)),
         Stop::Refused { number, step } => (verdict_text(Verdict::Refused { number, step }), None),
+    }
+}
+
+/// The line of a split, and the divided plan's record unless it is a refusal.
+pub fn divided(reserve: u64, cluster: &[u8], plan: &[u8]) -> (String, Option<Vec<u8>>) {
+    let mut out = vec![0; split::BUFFER];
+    match split::split(reserve, cluster, plan, &mut out) {
+        Split::Done { steps, cost } => {
+            let width = Version::of(out[0]).expect("a record").width();
+            out.truncate(PLAN_HEADER + (2 + width) * usize::from(steps));
+            (format!("divided steps {steps} cost {cost}\n"), Some(out))
+        }
+        Split::Refused { number, step } => (verdict_text(Verdict::Refused { number, step }), None),
     }
 }
 

@@ -1,9 +1,11 @@
 //! The examples: their records are what their texts give, those without a text have none, planning,
-//! checking and stopping give what stands beside them, at reserves too, and the page names each.
+//! checking, stopping and dividing give what stands beside them, at reserves too, and the page names each.
 
 use kobdrieft_model::draw::{page, Whose};
 use kobdrieft_model::form::{read_cluster, read_plan};
-use kobdrieft_model::text::{plan_text, planned, read_marks, read_number, stopped, verdict_text};
+use kobdrieft_model::text::{
+    divided, plan_text, planned, read_marks, read_number, stopped, verdict_text,
+};
 use kobdrieft_model::*;
 use std::collections::BTreeSet;
 use std::fs;
@@ -85,6 +87,51 @@ fn stop_files(ending: &str) -> Vec<StopFile> {
     files().into_iter().filter_map(read).collect()
 }
 
+/// A split of an example's plan, as the name of its file says it.
+struct SplitFile {
+    file: String,
+    name: String,
+    reserve: u64,
+}
+
+impl SplitFile {
+    fn cluster(&self) -> Vec<u8> {
+        bytes(&format!("{}.cluster", self.name))
+    }
+
+    fn plan(&self) -> Vec<u8> {
+        bytes(&format!("{}.plan", self.name))
+    }
+
+    /// What is said of it here.
+    fn said(&self) -> String {
+        text(&format!("{}.split", self.file))
+    }
+
+    /// The record beside it, if there is one.
+    fn single(&self) -> Option<Vec<u8>> {
+        fs::read(file(&format!("{}.single", self.file))).ok()
+    }
+
+    /// What the checker says of its plan.
+    fn verdict(&self) -> Verdict {
+        check(self.reserve, &self.cluster(), &self.plan())
+    }
+}
+
+/// The splits here with this ending: `NAME.ENDING`, and at reserves `NAME.reserve-R.ENDING`.
+fn split_files(ending: &str) -> Vec<SplitFile> {
+    let read = |(name, rest): (String, String)| match rest.strip_suffix(ending)? {
+        "" => Some(SplitFile { file: name.clone(), name, reserve: 0 }),
+        rest => {
+            let rest = rest.strip_suffix('.')?;
+            let reserve = read_number(rest.strip_prefix("reserve-")?)?;
+            Some(SplitFile { file: format!("{name}.{rest}"), name, reserve })
+        }
+    };
+    files().into_iter().filter_map(read).collect()
+}
+
 /// Whether a cluster's record is what some text packs to. A damaged one is not.
 fn cluster_has_text(name: &str) -> bool {
     parse_cluster(&bytes(&format!("{name}.cluster"))).is_ok()
@@ -99,7 +146,7 @@ fn has_text(name: &str) -> bool {
 
 #[test]
 fn every_example_is_whole() {
-    assert!(names("cluster").len() >= 44);
+    assert!(names("cluster").len() >= 50);
     let with_text = names("cluster").into_iter().filter(|name| cluster_has_text(name));
     assert_eq!(names("room"), with_text.collect());
     assert_eq!(names("expected"), names("cluster"));
@@ -112,12 +159,18 @@ fn every_example_is_whole() {
     let others: Vec<_> = files().into_iter().filter(is_other).collect();
     let (planned, checked) = (at_reserves("expected"), at_reserves("verdict"));
     let (stops, records) = (stop_files("stopped"), stop_files("after"));
+    let (splits, singles) = (split_files("split"), split_files("single"));
     let known = [planned.len(), checked.len(), stops.len(), records.len()];
-    assert_eq!(known.iter().sum::<usize>(), others.len(), "{others:?}");
+    let known = known.iter().sum::<usize>() + splits.len() + singles.len();
+    assert_eq!(known, others.len(), "{others:?}");
     assert!(stops.iter().all(|stop| names("plan").contains(&stop.name)));
     let is_done = |stop: &&StopFile| text(&format!("{}.stopped", stop.file)).starts_with("stopped");
     let done: Vec<&String> = stops.iter().filter(is_done).map(|stop| &stop.file).collect();
     assert_eq!(done, records.iter().map(|stop| &stop.file).collect::<Vec<_>>());
+    assert!(splits.iter().all(|split| names("plan").contains(&split.name)));
+    let done = splits.iter().filter(|split| split.said().starts_with("divided"));
+    let done: Vec<&String> = done.map(|split| &split.file).collect();
+    assert_eq!(done, singles.iter().map(|split| &split.file).collect::<Vec<_>>());
     assert!(planned.iter().all(|(name, ..)| names("cluster").contains(name)));
     assert!(checked.iter().all(|(name, ..)| names("plan").contains(name)));
 }
@@ -138,8 +191,14 @@ fn records_are_what_the_texts_give() {
 #[test]
 fn versions_of_the_plans() {
     let sources = ["a-sources", "a-wrong-source", "a-swapped", "a-same", "a-stays-named"];
-    let others =
-        ["a-nothing-2", "launch", "launch-wrong-source", "shutdown-cost", "shutdown-fenced"];
+    let others = [
+        "a-nothing-2",
+        "launch",
+        "launch-shutdown",
+        "launch-wrong-source",
+        "shutdown-cost",
+        "shutdown-fenced",
+    ];
     let two: BTreeSet<String> = sources.into_iter().chain(others).map(String::from).collect();
     for name in names("steps") {
         let plan = parse_plan(&bytes(&format!("{name}.plan"))).unwrap();
@@ -166,6 +225,7 @@ fn versions_of_the_clusters() {
         "launch-after-pivot",
         "launch-at-once",
         "launch-mate",
+        "launch-shutdown",
         "launch-waits",
         "launch-wrong-source",
         "shutdown",
@@ -212,6 +272,8 @@ fn clusters_that_are_the_same() {
         ("before", "before-both"),
         ("before", "before-pivot"),
         ("before-moves-on", "before-leaves"),
+        ("empty-home", "header-home"),
+        ("most-moves", "more-moves"),
     ];
     for (one, other) in alike {
         assert_eq!(bytes(&format!("{one}.cluster")), bytes(&format!("{other}.cluster")));
@@ -240,7 +302,7 @@ fn idle_and_its_like() {
 fn before_and_its_like() {
     let is_one = |name: &String| name.starts_with("before");
     let wait: Vec<String> = names("room").into_iter().filter(is_one).collect();
-    assert_eq!(wait.len(), 10);
+    assert_eq!(wait.len(), 11);
     for name in wait {
         let mut room = parse_cluster(&bytes(&format!("{name}.cluster"))).unwrap();
         assert!(room.befores().count() > 0, "{name}");
@@ -383,6 +445,79 @@ fn what_a_stop_wrote_is_planned_again() {
 }
 
 #[test]
+fn splits_come_out_as_is_expected() {
+    let splits = split_files("split");
+    assert!(splits.len() >= 20);
+    for split in splits {
+        let (said, record) = divided(split.reserve, &split.cluster(), &split.plan());
+        assert_eq!(said, split.said(), "{}", split.file);
+        assert_eq!(record, split.single(), "{}", split.file);
+    }
+}
+
+/// The version and the moves of the records that were written.
+#[test]
+fn what_splits_write() {
+    const DOWN: usize = NOWHERE;
+    let bare = |moves: &[(usize, usize)]| -> Vec<Move> {
+        moves.iter().map(|&(vm, to)| Move::bare(vm, to)).collect()
+    };
+    let named = |moves: &[(usize, usize, usize)]| -> Vec<Move> {
+        moves.iter().map(|&(vm, from, to)| Move { vm, from: Some(from), to }).collect()
+    };
+    let all: Vec<Move> =
+        [1, 0].iter().flat_map(|&to| (0..256).map(move |vm| Move::bare(vm, to))).collect();
+    let thin = bare(&[(0, 1), (1, 2), (2, 1), (3, 0)]);
+    let table = [
+        ("a", Version::One, bare(&[(0, 2), (1, 0), (0, 1)])),
+        ("a-sources", Version::Two, named(&[(0, 0, 2), (1, 1, 0), (0, 2, 1)])),
+        ("before-two", Version::One, bare(&[(0, 1), (1, 2), (2, 2)])),
+        ("empty-home", Version::Two, vec![]),
+        ("five", Version::One, bare(&[(0, 1), (1, 0)])),
+        ("header-home", Version::One, vec![]),
+        ("idle-beside", Version::One, bare(&[(0, 1), (1, 1)])),
+        ("kept-cpu", Version::One, bare(&[(0, 1), (1, 1), (2, 2)])),
+        ("kept-leaves.reserve-10", Version::One, bare(&[(0, 1), (1, 0)])),
+        ("launch-shutdown", Version::Two, named(&[(0, DOWN, 1), (1, 1, DOWN), (2, 0, 1)])),
+        ("most-moves", Version::One, all),
+        ("thin-links", Version::One, thin.clone()),
+        ("thin-links.reserve-10", Version::One, thin),
+    ];
+    let splits = split_files("single");
+    assert_eq!(splits.len(), table.len());
+    for split in splits {
+        let (_, version, moves) = table.iter().find(|(file, ..)| *file == split.file).unwrap();
+        let steps = moves.iter().map(|&m| vec![m]).collect();
+        let plan = Plan { version: *version, steps };
+        assert_eq!(parse_plan(&split.single().unwrap()), Ok(plan), "{}", split.file);
+    }
+    for single_already in ["a", "a-sources", "header-home"] {
+        let [plan, single] = ["plan", "single"].map(|e| bytes(&format!("{single_already}.{e}")));
+        assert_eq!(plan, single, "{single_already}");
+    }
+}
+
+/// The checker accepts every record that a split wrote, at the cost that is said, which is not lower than
+/// that of the plan.
+#[test]
+fn what_a_split_wrote_is_accepted() {
+    let mut dearer = 0;
+    for split in split_files("single") {
+        let verdict = check(split.reserve, &split.cluster(), &split.single().unwrap());
+        let (Verdict::Accepted { cost }, Verdict::Accepted { cost: undivided }) =
+            (verdict, split.verdict())
+        else {
+            panic!("{}: {verdict:?}", split.file);
+        };
+        let steps = parse_plan(&split.single().unwrap()).unwrap().steps.len();
+        assert_eq!(split.said(), format!("divided steps {steps} cost {cost}\n"), "{}", split.file);
+        assert!(cost >= undivided, "{}", split.file);
+        dearer += usize::from(cost > undivided);
+    }
+    assert!(dearer >= 8, "{dearer}");
+}
+
+#[test]
 fn every_plan_that_fits_is_drawn() {
     for name in names("plan") {
         let room = parse_cluster(&bytes(&format!("{name}.cluster"))).unwrap();
@@ -433,4 +568,20 @@ fn the_page_has_every_stop() {
     }
     let rows = page.lines().filter(|line| line.contains("| `stopped length ")).count();
     assert_eq!(rows, stop_files("after").len());
+}
+
+/// Each split has a row of its own, with what the checker says of the plan and what is said of the split.
+#[test]
+fn the_page_has_every_split() {
+    let page = text("README.md");
+    let (_, page) = page.split_once("\nDivided into single moves.").expect("their table");
+    for split in split_files("split") {
+        let begin = format!("| `{}` | {} |", split.name, split.reserve);
+        let (verdict, said) = (verdict_text(split.verdict()), split.said());
+        let end = format!("| `{}` | `{}` |", verdict.trim_end(), said.trim_end());
+        let is_row = |line: &&str| line.starts_with(&begin) && line.ends_with(&end);
+        assert_eq!(page.lines().filter(is_row).count(), 1, "{}: {end}", split.file);
+    }
+    let rows = page.lines().filter(|line| line.contains("| `divided steps ")).count();
+    assert_eq!(rows, split_files("single").len());
 }

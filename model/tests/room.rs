@@ -569,7 +569,7 @@ fn reserves_that_are_not_understood() {
     let here = Folder::new("reserve-words");
     here.put_both();
     for digits in ["''", "+1", "-1", "1.5", "ten", "10%", "0x10", "' 1'", "a.cluster"] {
-        for command in ["plan", "check", "stop", "draw"] {
+        for command in ["plan", "check", "stop", "split", "draw"] {
             let files = "a.cluster both.plan x";
             let words = digits.trim_matches('\'');
             let why = format!("'{words}' stands where a reserve should, a number in digits");
@@ -722,6 +722,130 @@ fn stops_that_are_not_understood() {
         "stop a.cluster plan --reserve 10 1 1 x",
         "stop a.cluster plan 1 1 x 10",
         "stop --reserve 10",
+    ] {
+        let (status, out, err) = here.room(words);
+        assert!(status == 3 && out.is_empty(), "{words}: {err}");
+        assert!(err.contains("room pack TEXT CLUSTER"), "{words}: {err}");
+    }
+    assert!(!here.0.join("x").exists());
+}
+
+/// Both moves of A with memory 5 as a step each, in either version, and A's own plan, which is so already.
+#[test]
+fn splits() {
+    let here = Folder::new("split");
+    here.put("a.txt", A);
+    here.put("five.txt", A.replace("node 4", "node 5"));
+    here.put("both-1.txt", "step 0 to 1, 1 to 0\n");
+    here.put("both-2.txt", "step 0 from 0 to 1, 1 from 1 to 0\n");
+    here.prints("pack a.txt a");
+    here.prints("pack five.txt five");
+    let singles = ["step 0 to 1\nstep 1 to 0\n", "step 0 from 0 to 1\nstep 1 from 1 to 0\n"];
+    for (version, singles) in ["1", "2"].iter().zip(singles) {
+        here.prints(&format!("pack-plan both-{version}.txt both"));
+        assert_eq!(here.prints("check five both"), "accepted cost 5\n");
+        here.put("out", "what was there before, longer than the record that is written");
+        for words in ["five both out", "--reserve 0 five both out", "--reserve 0000 five both out"]
+        {
+            assert_eq!(here.prints(&format!("split {words}")), "divided steps 2 cost 8\n");
+            assert_eq!(here.prints("unpack-plan out"), singles);
+        }
+        assert_eq!(here.prints("check five out"), "accepted cost 8\n");
+        assert_eq!(here.prints("split five out again"), "divided steps 2 cost 8\n");
+        assert_eq!(here.get("again"), here.get("out"));
+    }
+    here.prints("plan a plan");
+    for words in ["a plan same", "--reserve 25 a plan same"] {
+        assert_eq!(here.prints(&format!("split {words}")), "divided steps 3 cost 16\n");
+        assert_eq!(here.get("same"), here.get("plan"));
+    }
+    here.put("home.txt", "node 4 100\nvm 3 50 from 0 to 0\n");
+    here.prints("pack home.txt home");
+    here.put("none", "");
+    here.put("header-1", [1, 0, 0, 0, 7, 0, 0]);
+    here.put("header-2", [2, 0, 0, 0, 7, 0, 0]);
+    for (plan, becomes) in
+        [("none", "header-2"), ("header-1", "header-1"), ("header-2", "header-2")]
+    {
+        assert_eq!(here.prints(&format!("split home {plan} out")), "divided steps 0 cost 0\n");
+        assert_eq!(here.get("out"), here.get(becomes), "{plan}");
+    }
+}
+
+/// Nothing is written, and a file that is there stays, with every refusal of a split.
+#[test]
+fn splits_that_are_refused() {
+    let here = Folder::new("no-split");
+    here.put_both();
+    here.prints("plan a.cluster plan");
+    here.put("none", "");
+    here.put("wide.txt", "node 600 600 x2\nvm 1 1 from 0 to 0 x256\n");
+    here.prints("pack wide.txt wide");
+    let all = |to: usize| {
+        let moves: Vec<String> = (0..256).map(|vm| format!("{vm} to {to}")).collect();
+        format!("step {}\n", moves.join(", "))
+    };
+    let there_and_back = all(1) + &all(0);
+    here.put("many.txt", &there_and_back);
+    here.prints("pack-plan many.txt many");
+    assert_eq!(here.prints("split wide many out"), "divided steps 512 cost 131328\n");
+    assert_eq!(here.get("out").len(), 2_055);
+    here.put("more.txt", there_and_back + "step 0 to 1\nstep 0 to 0\n");
+    here.prints("pack-plan more.txt more");
+    assert_eq!(here.prints("check wide more"), "accepted cost 775\n");
+    here.put("out", "kept");
+    for (words, number, step) in [
+        ("wide more out", 14, 0),
+        ("a.cluster both.plan out", 17, 1),
+        ("a.cluster none out", 19, 0),
+        ("none plan out", 1, 0),
+        ("a.cluster a.cluster out", 14, 0),
+        ("--reserve 26 a.cluster plan out", 8, 0),
+        ("--reserve 91 wide more out", 23, 0),
+        ("--reserve 18446744073709551616 none none out", 23, 0),
+    ] {
+        here.refuses(&format!("split {words}"), number, step);
+        let words = words.strip_suffix("out").unwrap();
+        here.refuses(&format!("split {words} x"), number, step);
+    }
+    assert_eq!(here.get("out"), b"kept");
+    assert!(!here.0.join("x").exists());
+}
+
+/// Files that are not there, a record that would go over one that is read, and other words.
+#[test]
+fn splits_that_are_not_understood() {
+    let here = Folder::new("split-words");
+    here.put_both();
+    here.prints("plan a.cluster plan");
+    for files in ["missing plan", "a.cluster missing", "missing missing", ". plan", "a.cluster ."] {
+        let (status, out, err) = here.room(&format!("split {files} x"));
+        assert!(status == 3 && out.is_empty() && err.contains("cannot be read ("), "{err}");
+    }
+    let before = [here.get("a.cluster"), here.get("plan")];
+    std::os::unix::fs::symlink("plan", here.0.join("link")).unwrap();
+    fs::hard_link(here.0.join("a.cluster"), here.0.join("hard")).unwrap();
+    for (out, file) in [
+        ("a.cluster", "a.cluster"),
+        ("hard", "a.cluster"),
+        ("plan", "plan"),
+        ("./plan", "plan"),
+        ("link", "plan"),
+    ] {
+        let why = format!("the record would be written over {file}");
+        here.fails(&format!("split a.cluster plan {out}"), 3, &why);
+        here.fails(&format!("split --reserve 91 a.cluster plan {out}"), 3, &why);
+    }
+    assert_eq!([here.get("a.cluster"), here.get("plan")], before);
+    let (status, out, err) = here.room("split a.cluster plan no/such/folder");
+    assert!(status == 3 && out.is_empty() && err.contains("cannot be written"), "{err}");
+    for words in [
+        "split a.cluster plan",
+        "split a.cluster plan x y",
+        "split a.cluster plan --reserve 10 x",
+        "split a.cluster plan x 10",
+        "split --reserve 10",
+        "divide a.cluster plan x",
     ] {
         let (status, out, err) = here.room(words);
         assert!(status == 3 && out.is_empty(), "{words}: {err}");

@@ -3,7 +3,7 @@
 
 mod common;
 
-use common::{hex, number_of, DOWN, NUMBERS};
+use common::{all_of_the_checker, hex, in_both_versions, number_of, Seen, DOWN, NUMBERS};
 use kobdrieft_model::edges::{
     a_with, cluster_a, edges, header, node, over_usable, room, room_2, steps, stop_edges, vm,
 };
@@ -167,8 +167,7 @@ fn the_checkers_refusals_come_first() {
         }
         numbers[usize::from(number)] += 1;
     }
-    let wanted = (1..=9).chain(11..=19).chain([23, 27, 33]);
-    assert!(wanted.into_iter().all(|number| numbers[number] > 0), "{numbers:?}");
+    all_of_the_checker(&numbers);
 }
 
 /// Every step of every plan that is accepted here, with bits added that a shorter number would lose.
@@ -365,11 +364,7 @@ fn both_plan_versions_are_stopped_alike() {
     let mut rng = Rng::new(14);
     let mut done = 0;
     for case in cases(15, 20_000) {
-        let (Ok(room), Ok(plan)) = (parse_cluster(&case.cluster), parse_plan(&case.plan)) else {
-            continue;
-        };
-        let one = plan_bytes(&bare(&plan.steps));
-        let two = plan_bytes(&named(&room, &bare(&plan.steps).steps));
+        let Some((_, [one, two])) = in_both_versions(&case) else { continue };
         let ask = some_stop(&mut rng, &case.cluster, &one);
         let by = [one, two].map(|plan| asked(0, &case.cluster, &plan, &ask));
         assert_eq!(by[0], by[1]);
@@ -475,16 +470,6 @@ fn small_plan(rng: &mut Rng) -> (u64, Vec<u8>, Vec<u8>) {
     }
 }
 
-/// How often something was so.
-#[derive(Default)]
-struct Seen(BTreeMap<&'static str, usize>);
-
-impl Seen {
-    fn note(&mut self, name: &'static str, holds: bool) {
-        *self.0.entry(name).or_default() += usize::from(holds);
-    }
-}
-
 /// At every moment of every order, whatever the hypervisor does with the moves that run: the VMs are
 /// where the record says, and that record keeps what it must and is taken for planning again.
 #[test]
@@ -523,8 +508,7 @@ fn a_stop_at_any_moment() {
             start = start.after(std::slice::from_ref(step));
         }
     }
-    println!("{:#?}", seen.0);
-    assert!(seen.0.values().all(|&count| count > 100));
+    seen.all_often();
 }
 
 /// Notes what there is to tell of a stop.

@@ -11,7 +11,7 @@ fn saved(program: &[u8], argument: usize, plan: &[u8]) -> bool {
     if os::arg_count() <= argument {
         return true;
     }
-    files::save(program, argument, show::record(plan))
+    files::save(program, argument, files::record(plan))
 }
 
 // The lines of a plan or of blocked; none if its record cannot be written.

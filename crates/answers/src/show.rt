@@ -74,14 +74,6 @@ fn checked(cluster: &[u8], plan: &[u8]) {
     }
 }
 
-// The record at a buffer's front, as long as it says it is.
-pub fn record(buffer: &[u8]) -> &[u8] {
-    if 7 <= buffer.len() {
-        return files::front(buffer, records::stated_length(buffer));
-    }
-    buffer
-}
-
 // A plan or blocked: the line of counts, and the lines of its moves.
 pub fn made(word: &[u8], cluster: &[u8], plan: &[u8], made: Made) {
     text(word);
@@ -89,5 +81,5 @@ pub fn made(word: &[u8], cluster: &[u8], plan: &[u8], made: Made) {
     files::field(b" moves ", made.moves);
     files::field(b" cost ", made.cost);
     text(b"\n");
-    checked(cluster, record(plan));
+    checked(cluster, files::record(plan));
 }

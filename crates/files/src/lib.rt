@@ -103,6 +103,14 @@ pub fn front(buffer: &[u8], n: usize) -> &[u8]
     }
 }
 
+// The plan record at a buffer's front, as long as it says it is.
+pub fn record(buffer: &[u8]) -> &[u8] {
+    if 7 <= buffer.len() {
+        return front(buffer, records::stated_length(buffer));
+    }
+    buffer
+}
+
 // Writes bytes to an open file and closes it; whether all went well.
 fn write_closed(fd: i32, bytes: &[u8]) -> bool {
     let whole = io::write_all(fd, bytes);

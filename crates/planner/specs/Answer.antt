@@ -1,10 +1,9 @@
 -- The planner's answer: a plan, or blocked, with what it wrote; or a refusal (01, "The planner" and refusals 1 to 10; 02, Job 5).
 use Prim.Native.Nat.{ℕ, _+_, _*_, _^_}
 use mathlib.Core.List.{List, _++_}
-use lib.ListN.{length, take, drop}
+use lib.ListN.{length, drop}
 use lib.Dec.{ltb}
 use Rattle.records.specs.Base.{pick}
-use Rattle.records.specs.Bytes.{be32}
 use Rattle.records.specs.Room.{Room, mostReserve, roomAt, clusterCheck, clusterNumber}
 use Rattle.records.specs.Plan.{Step, moveTotal}
 use Rattle.records.specs.declared.faults.ClusterCheck.{ClusterCheck}
@@ -63,10 +62,6 @@ unfoldable pub bufferOf : Answer → List ℕ → List ℕ → List ℕ
 bufferOf (Refused fault) plan buffer = buffer
 bufferOf (Plan made) plan buffer = plan ++ drop (length plan) buffer
 bufferOf (Blocked made) plan buffer = plan ++ drop (length plan) buffer
-
--- the record at the front of a buffer, as long as it says it is
-unfoldable pub frontOf : List ℕ → List ℕ
-frontOf buffer = take (be32 buffer 1) buffer
 
 -- the documents' number of each refusal; its step is 0
 abbrev pub buildNumber : BuildFault → ℕ

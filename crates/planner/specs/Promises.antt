@@ -8,7 +8,7 @@ use mathlib.Core.Path.{_≡_}
 use lib.ListN.{length}
 use Rattle.records.specs.Bytes.{versionOf}
 use Rattle.records.specs.Room.{Room, mostReserve, roomAt}
-use Rattle.records.specs.Plan.{Step, stepsOf, moveTotal, headerBytes, planBytes, writtenVersion}
+use Rattle.records.specs.Plan.{Step, stepsOf, moveTotal, headerBytes, planBytes, writtenVersion, frontOf}
 use Rattle.rules.specs.Moments.{Placement, currentOf}
 use Rattle.rules.specs.Orders.{Run, EachBeginOfRun}
 use Rattle.rules.specs.Rules.{soundStep}
@@ -19,7 +19,7 @@ use Rattle.rules.specs.Promises.{afterAll, namedAll, sourcedAll, AcceptedCluste
 use Rattle.rules.specs.declared.faults.Fault.{Fault}
 use Rattle.rules.specs.declared.faults.Verdict.{Verdict}
 use Rattle.planner.specs.Picks.{away, awayCount, canGo, useful, Picks}
-use Rattle.planner.specs.Answer.{stepsFor, answerOf, bufferOf, frontOf, leastBuffer, buildNumber, packedAnswer}
+use Rattle.planner.specs.Answer.{stepsFor, answerOf, bufferOf, leastBuffer, buildNumber, packedAnswer}
 use Rattle.planner.specs.declared.answer.Made.{Made}
 use Rattle.planner.specs.declared.answer.Answer.{Answer}
 use Rattle.planner.specs.declared.answer.Answer.the-variants.{Plan, Blocked, Refused}

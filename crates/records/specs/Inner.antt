@@ -8,7 +8,7 @@ use lib.Dec.{ltb, leb, eqb}
 use Rattle.records.specs.Base.{pick, all}
 use Rattle.records.specs.Bytes.{byteAt}
 use Rattle.records.specs.Room.{listOk, apart, nodesAt, nodesEnd, groupsFrom, groupsEnd, kindAt, firstAt, secondAt, pairEnd, nodeCount, vmCount, partsFrom, partsEnd, wellFormed}
-use Rattle.records.specs.Plan.{Step, stepsFrom, stepsEnd, sized, moveTotal}
+use Rattle.records.specs.Plan.{Step, namesSources, stepsFrom, stepsEnd, sized, moveTotal}
 use Rattle.records.specs.declared.plan.Source.{Source}
 use Rattle.records.specs.declared.plan.Source.the-variants.{Unnamed, Named}
 use Rattle.records.specs.declared.lists.Listed.{Listed}
@@ -91,6 +91,13 @@ tellsSource (Named node) = true
 
 unfoldable pub tellsSources : Step → Bool
 tellsSources step = all (λ move. tellsSource (move .source)) step
+
+-- the moves of a step suit a version: every one names its source if the version does, and else none
+unfoldable pub suitsSource : Bool → Source → Bool
+suitsSource names source = pick names (tellsSource source) (not (tellsSource source))
+
+unfoldable pub suits : ℕ → Step → Bool
+suits version step = all (λ move. suitsSource (namesSources version) (move .source)) step
 
 -- ---- where a walk over an undamaged record stands
 

@@ -49,8 +49,11 @@ unfoldable pub namesSources : ℕ → Bool
 namesSources version = eqb version 2
 
 -- so a move has two bytes or three: first its VM, last its destination, between them the source if there is one
+abbrev pub widthIn : ℕ → ℕ
+widthIn version = pick (namesSources version) 3 2
+
 unfoldable pub moveWidth : List ℕ → ℕ
-moveWidth s = pick (namesSources (versionOf s)) 3 2
+moveWidth s = widthIn (versionOf s)
 
 unfoldable pub sourceAt : List ℕ → ℕ → Source
 sourceAt s at = pick (namesSources (versionOf s)) (Named (byteAt s at)) Unnamed
@@ -92,8 +95,12 @@ moveTotal steps = sumOf length steps
 unfoldable pub sized : Step → Bool
 sized step = leb 1 (length step) && leb (length step) 256
 
+-- the most steps that a plan has
+abbrev pub mostSteps : ℕ
+mostSteps = 512
+
 unfoldable pub shaped : List Step → Bool
-shaped steps = leb (length steps) 512 && (all sized steps && leb (moveTotal steps) 1024)
+shaped steps = leb (length steps) mostSteps && (all sized steps && leb (moveTotal steps) 1024)
 
 -- the first fault in checking order, 11 to 14; 0 bytes are a whole record (02, Job 8)
 abbrev pub refusePlan : Bool → PlanFault → PlanCheck → PlanCheck
@@ -149,16 +156,29 @@ stepsBytes (step ∷ steps) = stepBytes step ++ stepsBytes steps
 unfoldable pub headerBytes : ℕ → ℕ → ℕ → List ℕ
 headerBytes version size steps = version ∷ bytes32 size ++ bytes16 steps
 
--- a record is written in version 2, in which a move has three bytes
+-- the bytes of steps as a record of a version. They stand for these steps if every move names its source where the version does, and none does where it
+-- does not (`Laws.RoundTrip.steps-of-record`)
+unfoldable pub recordBytes : ℕ → List Step → List ℕ
+recordBytes version steps = headerBytes version (7 + length (stepsBytes steps)) (length steps) ++ stepsBytes steps
+
+-- the planner writes version 2, in which a move has three bytes
 abbrev pub writtenVersion : ℕ
 writtenVersion = 2
 
 abbrev pub writtenWidth : ℕ
 writtenWidth = 3
 
--- the record of steps whose moves all name their sources
+-- the planner's record
 unfoldable pub planBytes : List Step → List ℕ
-planBytes steps = headerBytes writtenVersion (7 + length (stepsBytes steps)) (length steps) ++ stepsBytes steps
+planBytes steps = recordBytes writtenVersion steps
+
+-- a plan that is written anew keeps its version; 0 bytes have none, and become version 2 (02, Job 9)
+unfoldable pub keptVersion : List ℕ → ℕ
+keptVersion s = pick (eqb (length s) 0) writtenVersion (versionOf s)
+
+-- the record at the front of a buffer, as long as it says it is
+unfoldable pub frontOf : List ℕ → List ℕ
+frontOf buffer = take (be32 buffer 1) buffer
 
 -- a buffer with bytes put at a place: all else stays
 unfoldable pub written : List ℕ → ℕ → List ℕ → List ℕ

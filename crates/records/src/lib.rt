@@ -52,6 +52,7 @@ pub use walk::part;
 // A plan record.
 pub use plan::LONGEST_PLAN;
 pub use plan::Source;
+pub use plan::kept_version;
 pub use plan::move_count;
 pub use plan::move_source;
 pub use plan::move_to;
@@ -63,5 +64,7 @@ pub use plan::step_end;
 
 // Writing one.
 pub use write::append_move;
+pub use write::append_single;
 pub use write::finish_plan;
+pub use write::finish_record;
 pub use write::finish_step;

@@ -11,7 +11,7 @@ ghost use Prim.Native.Nat.{_+_, _*_, _≤_, _<_, _^_};
 ghost use lib.ListN.{length};
 ghost use Rattle.records.specs.Bytes.{be32, versionOf};
 ghost use lib.Dec.{eqb};
-ghost use Rattle.records.specs.Plan.{stepCount, moveCount, moveOf, moveWidth, namesSources, stepAt, stepEnd, stepsOf, stepsEnd, shaped, planCheck, PlanRead};
+ghost use Rattle.records.specs.Plan.{stepCount, moveCount, moveOf, moveWidth, namesSources, stepAt, stepEnd, stepsOf, stepsEnd, shaped, planCheck, keptVersion, PlanRead};
 ghost use Rattle.records.specs.Inner.{stepsOk};
 ghost use Rattle.records.specs.declared.faults.PlanCheck.{PlanCheck};
 
@@ -24,7 +24,7 @@ pub enum Source {
 // The version whose moves name their sources; how many bytes a move has in the other and in this one.
 pub const NAMING: u8 = 2;
 
-const PLAIN_WIDTH: usize = 2;
+pub const PLAIN_WIDTH: usize = 2;
 
 pub const NAMING_WIDTH: usize = 3;
 
@@ -140,6 +140,13 @@ pub fn step_count(s: &[u8]) -> usize
     ensures { λ r. ⌜ (r ≡ stepCount (now (s .entry))) × (r ≤ 512) ⌝ }
 {
     if 0 < s.len() { count16(s, 5) } else { 0 }
+}
+
+// The version in which an undamaged record is written anew: its own, and the one that names sources if it has 0 bytes.
+pub fn kept_version(s: &[u8]) -> u8
+    ensures { λ r. ⌜ r ≡ keptVersion (now (s .entry)) ⌝ }
+{
+    if 0 < s.len() { byte(s, 0) } else { NAMING }
 }
 
 // How many moves the step at a place has.

@@ -1,12 +1,15 @@
-// Writing a plan record into a lent buffer, in the version that names sources: moves, then their step's count, then the header. Nothing
-// else in the buffer changes.
+// Writing a plan record into a lent buffer: moves, then their step's count, or a step of one move; then the header. Nothing else in the
+// buffer changes.
 use crate::plan::NAMING;
 use crate::plan::NAMING_WIDTH;
+use crate::plan::PLAIN_WIDTH;
+use crate::plan::Source;
+ghost use mathlib.Core.List.{[], _∷_};
 ghost use mathlib.Core.Path.{_≡_};
 ghost use Prim.Native.Nat.{_+_, _*_, _≤_, _<_, _^_};
 ghost use lib.ListN.{length};
 ghost use Rattle.records.specs.Bytes.{bytes16, bytes32};
-ghost use Rattle.records.specs.Plan.{writtenVersion, writtenWidth, moveBytes, headerBytes, written};
+ghost use Rattle.records.specs.Plan.{writtenVersion, writtenWidth, moveBytes, stepBytes, headerBytes, written};
 ghost use Rattle.records.specs.declared.plan.Source.{Source};
 
 // Puts a number as two bytes.
@@ -49,12 +52,54 @@ pub fn finish_step(out: &mut [u8], at: usize, n: usize) -> usize
     at + 2 + n * NAMING_WIDTH
 }
 
-// Puts the header of a record that ends at a place and has so many steps.
+// Puts a step of one move at a place, the move naming no source, and tells where the next step starts.
+fn append_plain(out: &mut [u8], at: usize, vm: u8, to: u8) -> usize
+    requires { ⌜ at + 4 ≤ length (now out) ⌝ }
+    ensures { λ r. ⌜ (r ≡ at + 4) × (now (out .exit) ≡ written (now (out .entry)) at (stepBytes (record { vm = vm; source = Source.Unnamed; to = to } ∷ []))) ⌝ }
+{
+    put16(out, at, 1);
+    out[at + 2] = vm;
+    out[at + 3] = to;
+    at + 2 + PLAIN_WIDTH
+}
+
+// The same of a move that names its source.
+fn append_naming(out: &mut [u8], at: usize, vm: u8, source: u8, to: u8) -> usize
+    requires { ⌜ at + 5 ≤ length (now out) ⌝ }
+    ensures { λ r. ⌜ (r ≡ at + 5) × (now (out .exit) ≡ written (now (out .entry)) at (stepBytes (record { vm = vm; source = Source.Named source; to = to } ∷ []))) ⌝ }
+{
+    put16(out, at, 1);
+    out[at + 2] = vm;
+    out[at + 3] = source;
+    out[at + 4] = to;
+    at + 2 + NAMING_WIDTH
+}
+
+// The same of any move.
+pub fn append_single(out: &mut [u8], at: usize, vm: u8, source: Source, to: u8) -> usize
+    requires { ⌜ at + 5 ≤ length (now out) ⌝ }
+    ensures { λ r. ⌜ (r ≡ at + length (stepBytes (record { vm = vm; source = source; to = to } ∷ []))) × (now (out .exit) ≡ written (now (out .entry)) at (stepBytes (record { vm = vm; source = source; to = to } ∷ []))) ⌝ }
+{
+    match source {
+        Source::Unnamed => append_plain(out, at, vm, to),
+        Source::Named(from) => append_naming(out, at, vm, from, to),
+    }
+}
+
+// Puts the header of a record of a version, which ends at a place and has so many steps.
+pub fn finish_record(out: &mut [u8], version: u8, end: usize, steps: usize)
+    requires { ⌜ 7 ≤ length (now out) ⌝ }
+    ensures { λ r. ⌜ now (out .exit) ≡ written (now (out .entry)) 0 (headerBytes version end steps) ⌝ }
+{
+    put16(out, 5, steps);
+    put32(out, 1, end);
+    out[0] = version;
+}
+
+// The same of the version that names sources.
 pub fn finish_plan(out: &mut [u8], end: usize, steps: usize)
     requires { ⌜ 7 ≤ length (now out) ⌝ }
     ensures { λ r. ⌜ now (out .exit) ≡ written (now (out .entry)) 0 (headerBytes writtenVersion end steps) ⌝ }
 {
-    put16(out, 5, steps);
-    put32(out, 1, end);
-    out[0] = NAMING;
+    finish_record(out, NAMING, end, steps);
 }

@@ -7,7 +7,7 @@ use mathlib.Core.Path.{_≡_}
 use lib.ListN.{length, getD, take}
 use Rattle.records.specs.Bytes.{versionOf}
 use Rattle.records.specs.Room.{Room, nodeOf, vmOf, nowhere, mostReserve, roomAt, clusterCheck}
-use Rattle.records.specs.Plan.{Move, Step, withSources, moveOf, stepsOf, planCheck, headerBytes}
+use Rattle.records.specs.Plan.{Move, Step, withSources, moveOf, stepsOf, mostSteps, planCheck, headerBytes, recordBytes, keptVersion}
 use Rattle.records.specs.declared.plan.Source.{Source}
 use Rattle.records.specs.declared.plan.Source.the-variants.{Named}
 use Rattle.records.specs.declared.faults.ClusterCheck.{ClusterCheck}
@@ -18,6 +18,7 @@ use Rattle.rules.specs.Rules.{allowed, targetCheck, named, sourced, perm
 use Rattle.rules.specs.Cost.{costOf}
 use Rattle.rules.specs.Verdict.{home, verdictOf, faultNumber, faultStep, packed}
 use Rattle.rules.specs.Returned.{toldNumber, toldStep, toldCost, SaysGood, SaysRefused}
+use Rattle.rules.specs.Divides.{Divides}
 use Rattle.rules.specs.declared.faults.TargetCheck.{TargetCheck}
 use Rattle.rules.specs.declared.faults.Verdict.{Verdict}
 
@@ -220,7 +221,22 @@ pub record NothingDown (room : Room) : Type 0 where
   pub targets : (v : ℕ) → v < length (room .vms) → placeOf (targetOf room) v < length (room .nodes)
   pub no-shutdown : (places : Placement) (step : Step) (i : ℕ) → i < length step → moveOf step i .to ≡ nowhere → named room places 0 step ≡ false
 
+-- ---- what holds of an accepted plan, divided
+
+-- steps that the steps of an accepted plan are divided into (02, Job 9): their record in the plan's version is accepted, as is every undamaged record that
+-- stands for them, and they cost no less than the plan
+pub record AcceptedDivided (reserve : ℕ) (cluster plan : List ℕ) (divided : List Step) : Type 0 where
+  pub stands-for : stepsOf (recordBytes (keptVersion plan) divided) ≡ divided
+  pub accepted : verdictOf reserve cluster (recordBytes (keptVersion plan) divided) ≡ Verdict.Accepted (costOf (roomAt reserve cluster) divided)
+  pub any-record : (other : List ℕ) → planCheck other ≡ PlanCheck.Whole → stepsOf other ≡ divided →
+      verdictOf reserve cluster other ≡ Verdict.Accepted (costOf (roomAt reserve cluster) divided)
+  pub no-cheaper : costOf (roomAt reserve cluster) (stepsOf plan) ≤ costOf (roomAt reserve cluster) divided
+
 -- ---- the promises
+
+-- the checker accepts a plan
+abbrev pub Accepts : ℕ → List ℕ → List ℕ → Type 0
+Accepts reserve cluster plan = (cost : ℕ) × (verdictOf reserve cluster plan ≡ Verdict.Accepted cost)
 
 -- a number tells a verdict: taken apart it says accepted and the cost, or refused with the documents' number and step; what does not apply reads 0
 abbrev pub TellsVerdict : ℕ → Verdict → Type 0
@@ -275,5 +291,7 @@ pub record Checked (reserve : ℕ) (cluster plan : List ℕ) (r : ℕ) : Type 0 
   pub unasked : (versionOf plan ≡ 2 → ⊥) → (sourcedAll (currentOf (roomAt reserve cluster)) (stepsOf plan) ≡ true) × ((n : ℕ) → SaysRefused r 27 n → ⊥)
   -- 0 bytes get the verdict that a header with 0 steps gets, of either version (02, Jobs 7 and 8)
   pub empty : plan ≡ [] → (version : ℕ) → (version ≡ 1) ⊎ (version ≡ 2) → verdictOf reserve cluster plan ≡ verdictOf reserve cluster (headerBytes version 7 0)
+  -- however its steps are divided, an accepted plan remains accepted as long as at most 512 steps result, and costs no less (02, Job 9)
+  pub divided : SaysGood r → (divided : List Step) → Divides (stepsOf plan) divided → length divided ≤ mostSteps → AcceptedDivided reserve cluster plan divided
   -- sound, wherever it is said here, is sound in every order
   pub sound : (places : Placement) (step : Step) → (soundStep (roomAt reserve cluster) places step ≡ true) ↔ SoundInOrders (roomAt reserve cluster) places step

@@ -13,7 +13,7 @@ use Rattle.rules.specs.Moments.{Placement, placeOf, currentOf, targetOf, stayin
 use Rattle.rules.specs.Orders.{Order, done, next, Run, some, mates, standsOn, Apart, EachMoment}
 use Rattle.rules.specs.Verdict.{verdictOf, packed}
 use Rattle.rules.specs.Returned.{toldNumber, toldStep, SaysGood, SaysRefused}
-use Rattle.rules.specs.Promises.{AcceptedCluster}
+use Rattle.rules.specs.Promises.{AcceptedCluster, Accepts}
 use Rattle.rules.specs.declared.faults.Fault.{Fault}
 use Rattle.rules.specs.declared.faults.Verdict.{Verdict}
 use Rattle.stop.specs.Stops.{numbered, stoppedAt, stoppedRecord, stopOf, bufferOf, stopNumber, stopStep, packedStop, toldLength}
@@ -102,10 +102,6 @@ pub record StoppedWell (reserve : ℕ) (cluster plan : List ℕ) (n : ℕ) (mark
   pub again : AcceptedCluster reserve bytes
 
 -- ---- the refusals
-
--- the checker accepts the plan
-abbrev pub Accepts : ℕ → List ℕ → List ℕ → Type 0
-Accepts reserve cluster plan = (cost : ℕ) × (verdictOf reserve cluster plan ≡ Verdict.Accepted cost)
 
 -- the step is one of the plan's, counted from 1, and has as many moves as there are marks
 pub record StepMarked (steps : List Step) (n : ℕ) (marks : List ℕ) : Type 0 where

@@ -1,4 +1,5 @@
-//! A simple checker of the same rules in plain Rust, and stops by it, coded for speed measurements.
+//! A simple checker of the same rules in plain Rust, and stops and splits by it, coded for speed
+//! measurements.
 //!
 //! It reads the lent bytes in place and keeps a mask of open nodes for each VM, a mask of VMs for
 //! each spread, and for each node its sums and a mask of the VMs on it. Of VMs on no node nothing is
@@ -85,6 +86,60 @@ fn from_step(mut steps: &[u8], width: usize, step: u64) -> Option<&[u8]> {
 /// Puts the VM of a move on its destination, among the VM rows.
 fn put_at(rows: &mut [u8], m: &[u8]) {
     rows[7 * usize::from(m[0]) + 5] = m[m.len() - 1];
+}
+
+/// Divides a plan into single moves at a reserve; the packed answer. The divided plan's record goes to the
+/// front of `out`.
+pub fn split(reserve: u64, cluster: &[u8], plan: &[u8], out: &mut [u8]) -> u64 {
+    let checked = check(reserve, cluster, plan);
+    if checked >> 62 != 0 {
+        return checked;
+    }
+    match split_sound(cluster, plan, out) {
+        Ok((steps, cost)) => (steps as u64) << 44 | cost,
+        Err(number) => REFUSED | u64::from(number) << 16,
+    }
+}
+
+/// Divides a plan that is accepted; its steps and its cost. The error is the refusal number, 10 or 14.
+fn split_sound(cluster: &[u8], plan: &[u8], out: &mut [u8]) -> Result<(usize, u64), u8> {
+    if out.len() < 2_567 {
+        return Err(10);
+    }
+    let version = plan.first().copied().unwrap_or(2);
+    let width = if version == 2 { 3 } else { 2 };
+    let rows = &cluster[11 + 5 * be16(&cluster[5..])..];
+    // The moves are counted first, as a refusal may write nothing.
+    let (mut rest, mut steps) = (plan.get(7..).unwrap_or(&[]), 0);
+    while !rest.is_empty() {
+        steps += be16(rest);
+        rest = &rest[2 + width * be16(rest)..];
+    }
+    if steps > 512 {
+        return Err(14);
+    }
+    let length = 7 + (2 + width) * steps;
+    let (header, body) = out[..length].split_at_mut(7);
+    header[0] = version;
+    header[1..5].copy_from_slice(&(length as u32).to_be_bytes());
+    header[5..].copy_from_slice(&(steps as u16).to_be_bytes());
+    let mut singles = body.chunks_exact_mut(2 + width);
+    let (mut cost, mut earlier) = (0, 0);
+    rest = plan.get(7..).unwrap_or(&[]);
+    while !rest.is_empty() {
+        let (moves, behind) = rest[2..].split_at(width * be16(rest));
+        for (m, single) in moves.chunks_exact(width).zip(&mut singles) {
+            single[..2].copy_from_slice(&[0, 1]);
+            single[2..].copy_from_slice(m);
+            if m[width - 1] != NOWHERE {
+                earlier += be24(&rows[7 * usize::from(m[0])..]);
+            }
+            // A move pays its own memory and that of all before it, which are a step each.
+            cost += earlier;
+        }
+        rest = behind;
+    }
+    Ok((steps, cost))
 }
 
 fn verdict(reserve: u64, cluster: &[u8], plan: &[u8]) -> Result<u64, Fault> {

@@ -245,24 +245,25 @@ pub fn mixed_at_a_reserve() -> Input {
 
 /// 4 steps of 256 moves: all VMs go on by 5 nodes at once.
 pub fn wide_steps() -> Input {
-    input("wide steps", striding(NODES), None)
+    input("wide steps", striding(NODES, 4), None)
 }
 
 /// The same on 63 nodes, but in the last step VM 255 goes to node 63, which has nothing to give.
 pub fn wide_steps_too_full() -> Input {
-    input("wide steps, too full", ending_at(striding(NODES - 1), NODES - 1), Some((17, 4)))
+    input("wide steps, too full", ending_at(striding(NODES - 1, 4), NODES - 1), Some((17, 4)))
 }
 
 /// The same on 64 nodes, but in the last step VM 255 names its destination as its source.
 pub fn wide_steps_wrong_source() -> Input {
-    wrong_source("wide steps, wrong source", striding(NODES))
+    wrong_source("wide steps, wrong source", striding(NODES, 4))
 }
 
-fn striding(nodes: usize) -> (Room, Vec<Step>) {
-    let places = |vm| (stop(vm, 0, nodes), stop(vm, 4, nodes));
+/// All VMs go on by 5 nodes at once, so many times.
+fn striding(nodes: usize, rounds: usize) -> (Room, Vec<Step>) {
+    let places = |vm| (stop(vm, 0, nodes), stop(vm, rounds, nodes));
     let room = full_room(nodes, places, latencies(CONSTRAINTS));
     let step = |round| (0..VMS).map(|vm| Move::bare(vm, stop(vm, round, nodes))).collect();
-    (room, (1..=4).map(step).collect())
+    (room, (1..=rounds).map(step).collect())
 }
 
 /// 128 spreads of 32 VMs; 4 steps in which all VMs go from their half of the nodes to the other.
@@ -410,4 +411,54 @@ pub fn halts() -> Vec<Halt> {
         },
         Halt { name: "cluster A", input: small_room(), step: 2, marks: vec![1] },
     ]
+}
+
+// ---------------------------------------------------------------- splits
+
+/// A plan that is divided, in either version, or refused with a number that is not 0.
+pub struct Cut {
+    pub name: &'static str,
+    pub input: Input,
+    pub number: u8,
+}
+
+/// All splits that are measured, that of the small room last. A full room's 512 moves come in 2 steps, in
+/// 4 with VMs that wait, in 2 with launches and shutdowns, and in 256; then there are 1,024 moves.
+pub fn cuts() -> Vec<Cut> {
+    let done = |name, plan| Cut { name, input: input(name, plan, None), number: 0 };
+    let refused = |name, input| Cut { name, input, number: 14 };
+    vec![
+        done("2 wide steps", striding(NODES, 2)),
+        done("4 steps, befores", waiting_steps()),
+        done("2 steps, launches", last_launches()),
+        done("256 steps of 2", half_the_hops()),
+        refused("1,024 moves, 4 steps", wide_steps()),
+        refused("1,024 moves, 512 steps", hops()),
+        Cut { name: "cluster A", input: small_room(), number: 0 },
+    ]
+}
+
+/// 4 steps of 128 moves: those who wait go on by 5 nodes at once, and those they wait for are home.
+fn waiting_steps() -> (Room, Vec<Step>) {
+    let last = |vm: usize| if vm < CONSTRAINTS { 0 } else { 4 };
+    let places = |vm| (stop(vm, 0, NODES), stop(vm, last(vm), NODES));
+    let step = |round| (128..VMS).map(|vm| Move::bare(vm, stop(vm, round, NODES))).collect();
+    (full_room(NODES, places, halves()), (1..=4).map(step).collect())
+}
+
+/// 2 steps of 256 moves: the last two of each VM that comes and goes.
+fn last_launches() -> (Room, Vec<Step>) {
+    let places = |vm| (comes_and_goes(vm, 2), comes_and_goes(vm, 4));
+    let room = Room { version: Version::Two, ..full_room(NODES, places, latencies(CONSTRAINTS)) };
+    let step = |round| (0..VMS).map(|vm| Move::bare(vm, comes_and_goes(vm, round))).collect();
+    (room, (3..=4).map(step).collect())
+}
+
+/// 256 steps of 2 moves: two rounds of hops.
+fn half_the_hops() -> (Room, Vec<Step>) {
+    let nodes = NODES - 1;
+    let (mut room, mut steps) = hopping(nodes, latencies(CONSTRAINTS));
+    steps.truncate(256);
+    room.vms.iter_mut().enumerate().for_each(|(vm, row)| row.target = stop(vm, 2, nodes));
+    (room, steps)
 }

@@ -1,12 +1,13 @@
 //! The verified library, called through its C interface, and what it is held against.
 //!
-//! `check`, `build` and `stop` lend slices as they are. `Lent` puts guard bytes around a copy, so that a
-//! write into lent bytes, or beside them, shows.
+//! `check`, `build`, `stop` and `split` lend slices as they are. `Lent` puts guard bytes around a copy, so
+//! that a write into lent bytes, or beside them, shows.
 
 pub mod baseline;
 mod befores;
 pub mod builds;
 mod damaged;
+mod divided;
 pub mod empties;
 mod idle;
 pub mod inputs;
@@ -15,8 +16,10 @@ pub mod nowhere;
 pub mod report;
 mod reserves;
 pub mod rooms;
+pub mod runs;
 mod seen;
 pub mod sources;
+pub mod splits;
 mod stopped;
 pub mod stops;
 pub mod streams;
@@ -25,21 +28,21 @@ mod told;
 
 mod c {
     extern "C" {
-        pub fn kobdrieft_check_v8(
+        pub fn kobdrieft_check_v9(
             reserve: u64,
             cluster: *const u8,
             cluster_len: usize,
             plan: *const u8,
             plan_len: usize,
         ) -> u64;
-        pub fn kobdrieft_build_v8(
+        pub fn kobdrieft_build_v9(
             reserve: u64,
             cluster: *const u8,
             cluster_len: usize,
             out: *mut u8,
             out_len: usize,
         ) -> u64;
-        pub fn kobdrieft_stop_v8(
+        pub fn kobdrieft_stop_v9(
             reserve: u64,
             cluster: *const u8,
             cluster_len: usize,
@@ -51,6 +54,15 @@ mod c {
             out: *mut u8,
             out_len: usize,
         ) -> u64;
+        pub fn kobdrieft_split_v9(
+            reserve: u64,
+            cluster: *const u8,
+            cluster_len: usize,
+            plan: *const u8,
+            plan_len: usize,
+            out: *mut u8,
+            out_len: usize,
+        ) -> u64;
     }
 }
 
@@ -59,14 +71,14 @@ pub fn check(reserve: u64, cluster: &[u8], plan: &[u8]) -> u64 {
     let (bytes, length) = (cluster.as_ptr(), cluster.len());
     // SAFETY: each pointer can be read for the length beside it. An empty slice has a pointer
     // that is not null, and no byte of it is read.
-    unsafe { c::kobdrieft_check_v8(reserve, bytes, length, plan.as_ptr(), plan.len()) }
+    unsafe { c::kobdrieft_check_v9(reserve, bytes, length, plan.as_ptr(), plan.len()) }
 }
 
 /// Builds a plan for a cluster at a reserve, at the front of `out`; the packed answer.
 pub fn build(reserve: u64, cluster: &[u8], out: &mut [u8]) -> u64 {
     let (bytes, length) = (cluster.as_ptr(), cluster.len());
     // SAFETY: as in `check`, and `out` can be written for its length and overlaps nothing.
-    unsafe { c::kobdrieft_build_v8(reserve, bytes, length, out.as_mut_ptr(), out.len()) }
+    unsafe { c::kobdrieft_build_v9(reserve, bytes, length, out.as_mut_ptr(), out.len()) }
 }
 
 /// Stops a plan for a cluster in a step at a reserve; the cluster record as it then is goes to the front
@@ -81,7 +93,7 @@ pub fn stop(
 ) -> u64 {
     // SAFETY: as in `build`.
     unsafe {
-        c::kobdrieft_stop_v8(
+        c::kobdrieft_stop_v9(
             reserve,
             cluster.as_ptr(),
             cluster.len(),
@@ -90,6 +102,23 @@ pub fn stop(
             step,
             marks.as_ptr(),
             marks.len(),
+            out.as_mut_ptr(),
+            out.len(),
+        )
+    }
+}
+
+/// Divides every step of a plan for a cluster into single moves at a reserve; the divided plan's record
+/// goes to the front of `out`. Gives the packed answer.
+pub fn split(reserve: u64, cluster: &[u8], plan: &[u8], out: &mut [u8]) -> u64 {
+    // SAFETY: as in `build`.
+    unsafe {
+        c::kobdrieft_split_v9(
+            reserve,
+            cluster.as_ptr(),
+            cluster.len(),
+            plan.as_ptr(),
+            plan.len(),
             out.as_mut_ptr(),
             out.len(),
         )
@@ -143,14 +172,14 @@ impl Lent {
 pub fn check_lent(reserve: u64, cluster: &mut Lent, plan: &mut Lent) -> u64 {
     let (bytes, length) = (cluster.pointer(), cluster.len());
     // SAFETY: both pointers stay within their vectors for the length beside them.
-    unsafe { c::kobdrieft_check_v8(reserve, bytes, length, plan.pointer(), plan.len()) }
+    unsafe { c::kobdrieft_check_v9(reserve, bytes, length, plan.pointer(), plan.len()) }
 }
 
 /// As `build`, over watched bytes.
 pub fn build_lent(reserve: u64, cluster: &mut Lent, out: &mut Lent) -> u64 {
     let (bytes, length) = (cluster.pointer(), cluster.len());
     // SAFETY: as in `check_lent`; the two vectors are apart.
-    unsafe { c::kobdrieft_build_v8(reserve, bytes, length, out.pointer(), out.len()) }
+    unsafe { c::kobdrieft_build_v9(reserve, bytes, length, out.pointer(), out.len()) }
 }
 
 /// As `stop`, over watched bytes.
@@ -164,7 +193,7 @@ pub fn stop_lent(
 ) -> u64 {
     // SAFETY: as in `build_lent`; all four vectors are apart.
     unsafe {
-        c::kobdrieft_stop_v8(
+        c::kobdrieft_stop_v9(
             reserve,
             cluster.pointer(),
             cluster.len(),
@@ -173,6 +202,22 @@ pub fn stop_lent(
             step,
             marks.pointer(),
             marks.len(),
+            out.pointer(),
+            out.len(),
+        )
+    }
+}
+
+/// As `split`, over watched bytes.
+pub fn split_lent(reserve: u64, cluster: &mut Lent, plan: &mut Lent, out: &mut Lent) -> u64 {
+    // SAFETY: as in `build_lent`; all three vectors are apart.
+    unsafe {
+        c::kobdrieft_split_v9(
+            reserve,
+            cluster.pointer(),
+            cluster.len(),
+            plan.pointer(),
+            plan.len(),
             out.pointer(),
             out.len(),
         )

@@ -8,6 +8,7 @@ use crate::nowhere::Nowhere;
 use crate::reserves::Reserves;
 use crate::seen::Seen;
 use crate::sources::Sources;
+use crate::splits::Splits;
 use crate::stops::Stops;
 use crate::{check, check_lent, Lent};
 use kobdrieft_model as model;
@@ -66,6 +67,7 @@ pub struct Report {
     pub(crate) builds: Builds,
     pub(crate) reserves: Reserves,
     pub(crate) stops: Stops,
+    pub(crate) splits: Splits,
 }
 
 impl Report {
@@ -142,7 +144,8 @@ impl Report {
         let (nowhere, builds) = (self.nowhere.missing(), self.builds.missing());
         let (idle, befores) = (self.idle.missing(), self.befores.missing());
         let lists = [checks, sources, nowhere, empties, builds, idle, befores];
-        let later = [self.reserves.missing(), self.stops.missing()].concat();
+        let (reserves, stops) = (self.reserves.missing(), self.stops.missing());
+        let later = [reserves, stops, self.splits.missing()].concat();
         for name in lists.concat().into_iter().chain(later) {
             println!("never generated: {name}");
             self.failed += 1;
@@ -161,6 +164,7 @@ impl Report {
         self.befores.print();
         self.reserves.print();
         self.stops.print();
+        self.splits.print();
         self.sources.print_origins();
         println!("{} passed, {} failed", self.passed, self.failed);
     }
@@ -206,7 +210,7 @@ pub(crate) fn missing(
 fn outcome_name(call: &str, outcome: usize) -> String {
     match (outcome, call) {
         (0, "build") => "plan".to_string(),
-        (0, "stop") => "done".to_string(),
+        (0, "stop" | "split") => "done".to_string(),
         (0, _) => "accepted".to_string(),
         (BLOCKED, _) => "blocked".to_string(),
         _ => outcome.to_string(),

@@ -1,11 +1,11 @@
-//! The trainer's command: records from text and back, plans, verdicts, stops, costs and pictures.
+//! The trainer's command: records from text and back, plans, verdicts, stops, splits, costs and pictures.
 
 use kobdrieft_model::draw::{page, Whose};
 use kobdrieft_model::form::{read_cluster, read_plan, write_cluster, write_plan, Fault};
 use kobdrieft_model::ledger::{lines, table};
 use kobdrieft_model::reasons::reason;
 use kobdrieft_model::rules::{plan_cost, reserve_fault};
-use kobdrieft_model::text::{planned, read_marks, read_number, stopped, verdict_text};
+use kobdrieft_model::text::{divided, planned, read_marks, read_number, stopped, verdict_text};
 use kobdrieft_model::{check, cluster_bytes, parse_cluster, parse_plan, plan_bytes};
 use kobdrieft_model::{Plan, Room, Verdict};
 use std::os::unix::fs::MetadataExt;
@@ -23,13 +23,15 @@ room check [--reserve R] CLUSTER PLAN
 room stop [--reserve R] CLUSTER PLAN STEP MARKS OUT
                                  stop a plan in a step, write the cluster record with all VMs where they are;
                                  MARKS has a digit for each move of the step: 1 it ended, 0 it did not
+room split [--reserve R] CLUSTER PLAN OUT
+                                 divide every step of a plan into single moves, write the divided plan's record
 room cost CLUSTER PLAN           print how the cost builds up, a line for each step; the last word is the cost
 room draw [--reserve R] CLUSTER PLAN PAGE [VERDICT]
                                  draw a plan as an HTML page; VERDICT is the line that the proved checker
                                  prints for it, else the page shows the model's own
 R is the share of each node, in percent, that is kept for the hypervisor: 0 if it is not given
 a PLAN of 0 bytes is read as a plan of no steps
-exit status: 0 plan, accepted or stopped, or done; 1 blocked; 2 refused, or a damaged record;
+exit status: 0 plan, accepted, stopped or divided, or done; 1 blocked; 2 refused, or a damaged record;
              3 wrong use, or a file that cannot be read or written
 ";
 
@@ -80,6 +82,7 @@ fn run(words: &[&str]) -> Outcome {
         ["stop", cluster, plan, step, marks, out] => {
             stop_plan(reserve, [cluster, plan], step, marks, out)
         }
+        ["split", cluster, plan, out] => split_plan(reserve, [cluster, plan], out),
         ["cost", cluster, plan] => cost_table(cluster, plan),
         ["draw", cluster, plan, page, ref verdict @ ..] if verdict.len() < 2 => {
             draw_plan(reserve, cluster, plan, page, verdict.first())
@@ -94,7 +97,8 @@ fn run(words: &[&str]) -> Outcome {
 
 /// Takes the reserve, or 0 if none is given, out from behind the commands that look at one.
 fn take_reserve<'a>(words: &[&'a str]) -> Result<(u64, Vec<&'a str>), Failure> {
-    let [command @ ("plan" | "check" | "stop" | "draw"), "--reserve", digits, rest @ ..] = words
+    let [command @ ("plan" | "check" | "stop" | "split" | "draw"), "--reserve", digits, rest @ ..] =
+        words
     else {
         return Ok((0, words.to_vec()));
     };
@@ -105,11 +109,7 @@ fn take_reserve<'a>(words: &[&'a str]) -> Result<(u64, Vec<&'a str>), Failure> {
 
 /// Makes a plan with the model. A refused cluster gives a refusal line and no record.
 fn make_plan(reserve: u64, cluster: &str, plan: &str) -> Outcome {
-    let (text, made) = planned(reserve, &read(cluster)?);
-    if let Some(made) = made {
-        write(plan, &made)?;
-    }
-    answer(&text)
+    written(planned(reserve, &read(cluster)?), plan)
 }
 
 /// Stops a plan with the model. A refusal gives its line and no record. The record takes the place of
@@ -119,12 +119,28 @@ fn stop_plan(reserve: u64, files: [&str; 2], step: &str, marks: &str, out: &str)
     let step = read_number(step).ok_or_else(no_step)?;
     let no_marks = || wrong(format!("'{marks}' stands where marks should, a digit for each move"));
     let marks = read_marks(marks).ok_or_else(no_marks)?;
+    let [cluster, plan] = both(files, out)?;
+    written(stopped(reserve, &cluster, &plan, step, &marks), out)
+}
+
+/// Divides a plan with the model. A refusal gives its line and no record, as with a stop.
+fn split_plan(reserve: u64, files: [&str; 2], out: &str) -> Outcome {
+    let [cluster, plan] = both(files, out)?;
+    written(divided(reserve, &cluster, &plan), out)
+}
+
+/// Reads two files, neither of which is the one for the record.
+fn both(files: [&str; 2], out: &str) -> Result<[Vec<u8>; 2], Failure> {
     let [cluster, plan] = files.map(read);
-    let (cluster, plan) = (cluster?, plan?);
-    if let Some(file) = files.into_iter().find(|file| is_same(file, out)) {
-        return Err(wrong(format!("the record would be written over {file}")));
+    let bytes = [cluster?, plan?];
+    match files.into_iter().find(|file| is_same(file, out)) {
+        Some(file) => Err(wrong(format!("the record would be written over {file}"))),
+        None => Ok(bytes),
     }
-    let (text, record) = stopped(reserve, &cluster, &plan, step, &marks);
+}
+
+/// Writes a record, if there is one, and answers.
+fn written((text, record): (String, Option<Vec<u8>>), out: &str) -> Outcome {
     if let Some(record) = record {
         write(out, &record)?;
     }

@@ -103,13 +103,13 @@ pub fn stop_edges() -> Vec<StopEdge> {
 }
 
 /// A's plan: VM 0 steps aside, VM 1 goes home, VM 0 follows.
-const ASIDE: Rows<'static> = &[&[(0, 2)], &[(1, 0)], &[(0, 1)]];
+pub(super) const ASIDE: Rows<'static> = &[&[(0, 2)], &[(1, 0)], &[(0, 1)]];
 
 /// Both VMs of A in one step.
-const BOTH: Rows<'static> = &[&[(0, 1), (1, 0)]];
+pub(super) const BOTH: Rows<'static> = &[&[(0, 1), (1, 0)]];
 
 /// Six VMs on four roomy nodes with a constraint of each kind, and steps of two moves, one and three.
-fn uneven() -> (Room, Vec<Step>) {
+pub(super) fn uneven() -> (Room, Vec<Step>) {
     let places = [(0, 2), (1, 3), (2, 1), (3, 3), (0, 1), (1, 1)];
     let vms = places.map(|(current, target)| vm(2, 3, current, target));
     let list = [

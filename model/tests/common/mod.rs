@@ -2,9 +2,11 @@
 #![allow(dead_code)]
 
 use kobdrieft_model::edges::steps;
+use kobdrieft_model::gen::Case;
 use kobdrieft_model::planner::make_steps;
 use kobdrieft_model::rules::accepted_cluster;
 use kobdrieft_model::*;
+use std::collections::BTreeMap;
 
 /// The place of a VM on no node.
 pub const DOWN: usize = 255;
@@ -74,6 +76,36 @@ pub fn steps_at(reserve: u64, room: &Room) -> (Vec<Step>, bool) {
         verdict => assert_eq!((verdict, all_home), (refused(19, 0), false)),
     }
     (steps, all_home)
+}
+
+/// A case's room, and its plan in each version with the right sources; `None` if a record is damaged.
+pub fn in_both_versions(case: &Case) -> Option<(Room, [Vec<u8>; 2])> {
+    let (room, plan) = (parse_cluster(&case.cluster).ok()?, parse_plan(&case.plan).ok()?);
+    let one = bare(&plan.steps);
+    let two = plan_bytes(&named(&room, &one.steps));
+    Some((room, [plan_bytes(&one), two]))
+}
+
+/// Every number that the checker gives, at a reserve too, was found.
+pub fn all_of_the_checker(numbers: &[usize; NUMBERS]) {
+    let mut wanted = (1..=9).chain(11..=19).chain([23, 27, 33]);
+    assert!(wanted.all(|number| numbers[number] > 0), "{numbers:?}");
+}
+
+/// How often something was so.
+#[derive(Default)]
+pub struct Seen(BTreeMap<&'static str, usize>);
+
+impl Seen {
+    pub fn note(&mut self, name: &'static str, holds: bool) {
+        *self.0.entry(name).or_default() += usize::from(holds);
+    }
+
+    /// Each was so more than 100 times.
+    pub fn all_often(&self) {
+        println!("{:#?}", self.0);
+        assert!(self.0.values().all(|&count| count > 100));
+    }
 }
 
 /// What must be on a page.

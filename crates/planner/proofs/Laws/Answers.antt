@@ -11,7 +11,7 @@ use borrow.Author.Tests.{lt-ltb, le-ltb}
 use Rattle.records.specs.Base.{pick}
 use Rattle.records.specs.Bytes.{bytes16, bytes32}
 use Rattle.records.specs.Room.{mostReserve, roomOf, roomAt, clusterCheck}
-use Rattle.records.specs.Plan.{stepsOf, shaped, stepsBytes, headerBytes, writtenVersion, planBytes, written, planCheck}
+use Rattle.records.specs.Plan.{stepsOf, shaped, stepsBytes, headerBytes, recordBytes, writtenVersion, planBytes, written, planCheck}
 use Rattle.records.specs.declared.faults.ClusterFault.{ClusterFault}
 use Rattle.records.specs.declared.faults.ClusterCheck.{ClusterCheck}
 use Rattle.records.specs.declared.faults.PlanCheck.{PlanCheck}
@@ -42,7 +42,7 @@ module _ (reserve : ℕ) (s before mid : List ℕ) (trail : Trail) (t : Trailed 
   plan-low = let a = plan-length (stepsFor (roomAt reserve s)) (t .tells) in let m = t .moves-most in let n = t .steps-most in omega arith
 
   size-is : length (planBytes (stepsFor (roomAt reserve s))) ≡ 7 + length (stepsBytes (stepsFor (roomAt reserve s)))
-  unfolding planBytes headerBytes bytes32 bytes16
+  unfolding planBytes recordBytes headerBytes bytes32 bytes16
   size-is = omega arith
 
   end-low : trail .end ≤ length before
@@ -50,7 +50,7 @@ module _ (reserve : ℕ) (s before mid : List ℕ) (trail : Trail) (t : Trailed 
 
   module _ (out : List ℕ) (f : out ≡ written mid 0 (headerBytes writtenVersion (trail .end) (trail .steps))) where
     record-is : out ≡ planBytes (stepsFor (roomAt reserve s)) ++ drop (length (planBytes (stepsFor (roomAt reserve s)))) before
-    unfolding planBytes headerBytes bytes32 bytes16
+    unfolding planBytes recordBytes headerBytes bytes32 bytes16
     record-is =
         let a = plan-low in let c = size-is in
         f ∙ rw (t .buffer, t .end, t .steps)

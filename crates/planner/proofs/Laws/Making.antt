@@ -1,7 +1,7 @@
 -- Laws on the steps as they are made and written: the next step, and one turn after the other.
 use Prim.Native.Nat.{ℕ, zero, suc, _+_, _*_, _≤_, _<_}
 use mathlib.Core.Bool.{Bool, true, false, _&&_, _||_, false≢true}
-use mathlib.Core.List.{List, [], _∷_, _++_, append-assoc, append-nil}
+use mathlib.Core.List.{List, [], _∷_, _++_, append-nil}
 use mathlib.Core.Logic.{by-cases}
 use mathlib.Core.Path.{_≡_, refl, sym, ap, ap₂, _∙_}
 use native.Mathlib.Decide.{ℕ-discrete}
@@ -20,7 +20,8 @@ use Rattle.records.specs.Inner.{tellsSources}
 use Rattle.records.specs.declared.faults.ClusterCheck.the-variants.{Whole}
 use Rattle.records.proofs.Laws.Cluster.{nodes-most, vms-most}
 use Rattle.records.proofs.Laws.Reserve.{room-nodes, room-vms}
-use Rattle.records.proofs.Laws.RoundTrip.{moves-length, steps-bytes-length}
+use Rattle.records.proofs.Laws.Steps.{total-append}
+use Rattle.records.proofs.Laws.RoundTrip.{moves-length, steps-bytes-length, bytes-append}
 use Rattle.records.proofs.Laws.Written.{written-next, written-earlier, written-length}
 use Rattle.rules.specs.Moments.{Placement, placeOf, currentOf, targetOf, after}
 use Rattle.rules.specs.Rules.{aims, named, soundStep}
@@ -182,13 +183,11 @@ making-start reserve s before places a z w b =
 -- the bytes of one step more
 bytes-snoc : (steps : List Step) (step : Step) → stepsBytes (steps ++ (step ∷ [])) ≡ stepsBytes steps ++ stepBytes step
 unfolding stepsBytes
-bytes-snoc [] step = append-nil (stepBytes step)
-bytes-snoc (first ∷ steps) step = ap (λ (x : List ℕ). stepBytes first ++ x) (bytes-snoc steps step) ∙ sym (append-assoc (stepBytes first) (stepsBytes steps) (stepBytes step))
+bytes-snoc steps step = bytes-append steps (step ∷ []) ∙ ap (λ (x : List ℕ). stepsBytes steps ++ x) (append-nil (stepBytes step))
 
 total-snoc : (steps : List Step) (step : Step) → moveTotal (steps ++ (step ∷ [])) ≡ moveTotal steps + length step
 unfolding moveTotal sumOf
-total-snoc [] step = omega arith
-total-snoc (first ∷ steps) step = let h : sumOf length (steps ++ (step ∷ [])) ≡ sumOf length steps + length step = total-snoc steps step in omega arith
+total-snoc steps step = let h : sumOf length (steps ++ (step ∷ [])) ≡ sumOf length steps + (length step + 0) = total-append steps (step ∷ []) in omega arith
 
 -- the moves of a step, then its count in front of them
 step-written : (before a : List ℕ) (step : Step) → tellsSources step ≡ true → 7 + length a + 2 + length step * writtenWidth ≤ length before →

@@ -8,7 +8,7 @@ use native.Mathlib.Omega.{arith}
 use Rattle.records.specs.Base.{all, sumOf}
 use Rattle.records.specs.Bytes.{byteAt, be16, be24, be32, bytes16, bytes32, knownVersion}
 use Rattle.records.specs.Room.{onNode, nodeOf, vmOf, usable, usableNode, atReserve, vmsOf, rows, nodeRow, vmRow, partAt, partsFrom, partsEnd, partsOf, vmsAt, nodesAt, groupsFrom, groupsEnd, constraintOf, listsEnd, roomOf, roomAt, knowsNowhere, countsOk, placeOk, vmOk, above, rises, listOk, has, disjoint, apart, constraintOk, filled, wellFormed, clusterCheck}
-use Rattle.records.specs.Plan.{withSources, namesSources, moveWidth, sourceAt, moveAt, stepAt, stepsFrom, stepsEnd, stepsOf, moveTotal, sized, shaped, planCheck, sourceBytes, moveBytes, movesBytes, stepBytes, stepsBytes, headerBytes, planBytes}
+use Rattle.records.specs.Plan.{withSources, namesSources, moveWidth, sourceAt, moveAt, stepAt, stepsFrom, stepsEnd, stepsOf, moveTotal, sized, shaped, planCheck, sourceBytes, moveBytes, movesBytes, stepBytes, stepsBytes, headerBytes, recordBytes, planBytes}
 use Rattle.rules.specs.Moments.{currentOf, targetOf, after, within, bears, bearsAt, ended, cell, countsOn, tallyAt, phaseOf, cellsFrom, firstMoment, begun, allRunning}
 use Rattle.rules.specs.Orders.{Order, done, next, begins, ends, later, SomeBegin, fits, spreads, some, mates, meetsMate}
 use Rattle.rules.specs.Rules.{keepsFrom, allowed, from, fitsAll, spreadOut, onNodes, keeps, targetCheck, aims, named, isPlace, sourced, permitted, fitting, unmet, hasMove, respects, inTurn, stepCheck, soundStep}
@@ -161,7 +161,7 @@ pub record OnPaper : Type 0 where
   pub last-plain : AcceptedAt clusterLast plainLast 12
 
 pub on-paper : OnPaper
-unfolding all sumOf be16 be24 be32 onNode nodeOf vmOf usable usableNode atReserve vmsOf rows nodeRow vmRow partAt partsFrom partsEnd partsOf vmsAt nodesAt groupsFrom groupsEnd constraintOf listsEnd roomOf knowsNowhere countsOk placeOk vmOk above rises listOk has disjoint apart constraintOk filled wellFormed clusterCheck knownVersion namesSources moveWidth sourceAt moveAt stepAt stepsFrom stepsEnd stepsOf moveTotal sized shaped planCheck currentOf targetOf after within bears bearsAt countsOn tallyAt phaseOf cellsFrom firstMoment begun allRunning spreads some mates meetsMate keepsFrom allowed from fitsAll spreadOut onNodes keeps targetCheck aims named isPlace sourced permitted fitting unmet hasMove respects inTurn stepCheck memoryOf stepCost costFrom costOf home onReserve onCluster onTarget onPlan onStep stepsVerdict planVerdict verdictOf clusterA planA planEmpty planBoth planVia planStale plainA plainEmpty plainBoth plainLast clusterLast planLast clusterNone banned mated awayCount away canGo joined joinedAll directStep otherGoes useful orElse pivotAmong pivotFirst pivotStep withSources fromPlaces nextStep onward pickedWithin picked stepsFor madeOf outcome answerReserve answerCluster answerTarget answerOf bufferOf soundStep bytes16 bytes32 sourceBytes moveBytes movesBytes stepBytes stepsBytes headerBytes planBytes planOne afterAll fits toldOutcome toldNumber toldStep toldSteps toldMoves toldCost
+unfolding all sumOf be16 be24 be32 onNode nodeOf vmOf usable usableNode atReserve vmsOf rows nodeRow vmRow partAt partsFrom partsEnd partsOf vmsAt nodesAt groupsFrom groupsEnd constraintOf listsEnd roomOf knowsNowhere countsOk placeOk vmOk above rises listOk has disjoint apart constraintOk filled wellFormed clusterCheck knownVersion namesSources moveWidth sourceAt moveAt stepAt stepsFrom stepsEnd stepsOf moveTotal sized shaped planCheck currentOf targetOf after within bears bearsAt countsOn tallyAt phaseOf cellsFrom firstMoment begun allRunning spreads some mates meetsMate keepsFrom allowed from fitsAll spreadOut onNodes keeps targetCheck aims named isPlace sourced permitted fitting unmet hasMove respects inTurn stepCheck memoryOf stepCost costFrom costOf home onReserve onCluster onTarget onPlan onStep stepsVerdict planVerdict verdictOf clusterA planA planEmpty planBoth planVia planStale plainA plainEmpty plainBoth plainLast clusterLast planLast clusterNone banned mated awayCount away canGo joined joinedAll directStep otherGoes useful orElse pivotAmong pivotFirst pivotStep withSources fromPlaces nextStep onward pickedWithin picked stepsFor madeOf outcome answerReserve answerCluster answerTarget answerOf bufferOf soundStep bytes16 bytes32 sourceBytes moveBytes movesBytes stepBytes stepsBytes headerBytes recordBytes planBytes planOne afterAll fits toldOutcome toldNumber toldStep toldSteps toldMoves toldCost
 on-paper = record {
   a-planned = record { outcome = refl; steps = refl; moves = refl; cost = refl; written = refl; accepted = record { outcome = refl; cost = refl; runs = accepted-runs (clusterA 40 0 4 4 4 []) planA 16 refl } };
   a-touched = λ before z e. let two : 2 ≡ byteAt before 0 = ap (λ (l : List ℕ). byteAt l 0) e in omega arith;

@@ -1,24 +1,23 @@
 -- The promises of `build` as theorems about `answerOf`: each field of `Built`.
-use Prim.Native.Nat.{ℕ, _+_, _≤_, _<_}
+use Prim.Native.Nat.{ℕ, _≤_, _<_}
 use mathlib.Core.Bool.{Bool, true, false, not, false≢true}
-use mathlib.Core.List.{List, [], _∷_, _++_}
+use mathlib.Core.List.{List, [], _∷_}
 use mathlib.Core.Logic.{_↔_, _⊎_, inl, inr}
 use mathlib.Core.Path.{_≡_, refl, sym, ap, _∙_}
 use native.Mathlib.Omega.{arith}
-use lib.ListN.{length, take, drop}
-use lib.Seq.{take-at}
+use lib.ListN.{length, drop}
 use lib.Dec.{ltb, eqb}
 use borrow.Author.Tests.{lt-ltb, le-ltb, not-true, ltb-true, ltb-false, not-false, ne-eqb, eqb-false}
 use Rattle.records.specs.Base.{pick, all}
-use Rattle.records.specs.Bytes.{be32, bytes16, bytes32, versionOf, AreBytes}
+use Rattle.records.specs.Bytes.{versionOf, AreBytes}
 use Rattle.records.specs.Room.{Room, mostReserve, roomOf, roomAt, clusterCheck}
-use Rattle.records.specs.Plan.{Step, moveTotal, stepsOf, shaped, planCheck, stepsBytes, headerBytes, planBytes}
+use Rattle.records.specs.Plan.{Step, moveTotal, stepsOf, shaped, planCheck, planBytes, frontOf}
 use Rattle.records.specs.Inner.{tellsSources}
 use Rattle.records.specs.declared.faults.ClusterFault.{ClusterFault}
 use Rattle.records.specs.declared.faults.ClusterCheck.{ClusterCheck}
 use Rattle.records.proofs.Laws.Cluster.{nodes-most, vms-most}
 use Rattle.records.proofs.Laws.Reserve.{room-nodes, room-vms}
-use Rattle.records.proofs.Laws.RoundTrip.{plan-length, plan-size, plan-whole, version-is, steps-of-plan, header-is, be32-back}
+use Rattle.records.proofs.Laws.RoundTrip.{plan-length, plan-front, plan-whole, version-is, steps-of-plan, header-is}
 use Rattle.rules.specs.Moments.{Placement, placeOf, currentOf, targetOf, after}
 use Rattle.rules.specs.Orders.{Run}
 use Rattle.rules.specs.Rules.{targetCheck}
@@ -42,7 +41,7 @@ use Rattle.rules.proofs.Laws.Waiting.{run-turn, waits-its-turn}
 use Rattle.rules.proofs.Laws.Bound.{first-there}
 use Rattle.rules.proofs.Laws.Verdicts.{current-length, off-some, off-home}
 use Rattle.planner.specs.Picks.{away, directStep, pivotStep, orElse, nextStep, Picks}
-use Rattle.planner.specs.Answer.{stepsFor, madeOf, outcome, answerReserve, answerCluster, answerTarget, answerOf, bufferOf, frontOf, buildNumber, packedAnswer, leastBuffer}
+use Rattle.planner.specs.Answer.{stepsFor, madeOf, outcome, answerReserve, answerCluster, answerTarget, answerOf, bufferOf, buildNumber, packedAnswer, leastBuffer}
 use Rattle.planner.specs.Promises.{Answers, toldMade, TellsAnswer, Stuck, Written, Planned, Halted, Taken, Built}
 use Rattle.planner.specs.Inner.{Packs}
 use Rattle.planner.specs.declared.answer.Made.{Made}
@@ -78,20 +77,6 @@ unfolding away
 stuck-away room places s =
     let v = s .lost .0 in
     off-home room places v (s .lost .1) (eqb-false (placeOf places v) (placeOf (targetOf room) v) (not-true (eqb (placeOf places v) (placeOf (targetOf room) v)) (s .lost .2)))
-
--- ---- the record at the front of a buffer
-
-stated : (steps : List Step) (rest : List ℕ) → all tellsSources steps ≡ true → shaped steps ≡ true → be32 (planBytes steps ++ rest) 1 ≡ length (planBytes steps)
-unfolding planBytes headerBytes bytes32 bytes16
-stated steps rest m z =
-    let a = plan-size steps m z in
-    let n : length (planBytes steps) ≡ 7 + length (stepsBytes steps) = omega arith in
-    be32-back (planBytes steps ++ rest) (bytes16 (length steps) ++ (stepsBytes steps ++ rest)) 1 (7 + length (stepsBytes steps)) (omega arith) refl ∙ sym n
-
-front-is : (steps : List Step) (rest : List ℕ) → all tellsSources steps ≡ true → shaped steps ≡ true → frontOf (planBytes steps ++ rest) ≡ planBytes steps
-unfolding frontOf
-front-is steps rest m z =
-    ap (λ (n : ℕ). take n (planBytes steps ++ rest)) (stated steps rest m z) ∙ take-at (planBytes steps) rest (length (planBytes steps)) refl
 
 -- ---- the cases of an answer
 
@@ -238,8 +223,8 @@ module _ (reserve : ℕ) (cluster before : List ℕ) (t : Taken reserve cluster 
   -- its buffer
   front-for : (a : Answer) (out : List ℕ) → refuses a ≡ false → out ≡ bufferOf a (planBytes (stepsFor (roomAt reserve cluster))) before → frontOf out ≡ planBytes (stepsFor (roomAt reserve cluster))
   unfolding bufferOf
-  front-for (Plan made) out r e = ap frontOf e ∙ front-is (stepsFor (roomAt reserve cluster)) (drop (length (planBytes (stepsFor (roomAt reserve cluster)))) before) steps-tell steps-shaped
-  front-for (Blocked made) out r e = ap frontOf e ∙ front-is (stepsFor (roomAt reserve cluster)) (drop (length (planBytes (stepsFor (roomAt reserve cluster)))) before) steps-tell steps-shaped
+  front-for (Plan made) out r e = ap frontOf e ∙ plan-front (stepsFor (roomAt reserve cluster)) steps-tell steps-shaped (drop (length (planBytes (stepsFor (roomAt reserve cluster)))) before)
+  front-for (Blocked made) out r e = ap frontOf e ∙ plan-front (stepsFor (roomAt reserve cluster)) steps-tell steps-shaped (drop (length (planBytes (stepsFor (roomAt reserve cluster)))) before)
   front-for (Refused fault) out r e = absurd (false≢true (sym r))
 
   rests : nextStep (roomAt reserve cluster) (afterAll (currentOf (roomAt reserve cluster)) (stepsFor (roomAt reserve cluster))) ≡ []

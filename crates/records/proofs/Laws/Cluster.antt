@@ -96,7 +96,7 @@ passed : (test : Bool) (f : ClusterFault) (rest : ClusterCheck) → pick test (D
 passed true f rest e = let z : _≡_ {A = ℕ} 0 1 = cc in absurd (omega arith)
 passed false f rest e = (refl, e)
 
-or-none : (a b : Bool) → (a || b) ≡ false → (a ≡ false) × (b ≡ false)
+pub or-none : (a b : Bool) → (a || b) ≡ false → (a ≡ false) × (b ≡ false)
 or-none true b e = let z : _≡_ {A = ℕ} 0 1 = cc in absurd (omega arith)
 or-none false b e = (refl, e)
 

@@ -2,13 +2,13 @@
 -- record has.
 use Prim.Native.Nat.{ℕ, zero, suc, _+_, _-_, _*_, _≤_, _<_}
 use mathlib.Core.Bool.{Bool, true, false, not, _&&_, and-false, and-assoc}
-use mathlib.Core.List.{List, [], _∷_}
+use mathlib.Core.List.{List, [], _∷_, _++_}
 use mathlib.Core.Path.{_≡_, refl, sym, ap, _∙_}
 use native.Mathlib.Nat.{add-assoc, zero-add, add-zero, mul-le-mul-left, mul-le-mul-right}
 use native.Mathlib.Omega.{arith}
 use native.Mathlib.Decide.{ℕ-discrete}
 use mathlib.Core.Logic.{by-cases}
-use lib.ListN.{length, getD}
+use lib.ListN.{length}
 use lib.Dec.{ltb, leb, eqb}
 use borrow.Author.Tests.{lt-ltb, le-ltb, le-leb, lt-leb, eq-eqb, ne-eqb, ltb-false, leb-true, eqb-true, not-false}
 use Rattle.records.specs.Base.{pick, all, sumOf}
@@ -16,7 +16,7 @@ use Rattle.records.specs.Bytes.{byteAt, be16, be32, versionOf, knownVers
 use Rattle.records.specs.Plan.{Move, Step, noMove, moveOf, stepCount, namesSources, moveWidth, sourceAt, moveCount, moveAt, stepAt, stepEnd, stepsFrom, stepsEnd, stepsOf, moveTotal, sized, shaped, planCheck, longestPlan}
 use Rattle.records.specs.declared.plan.Source.the-variants.{Unnamed, Named}
 use Rattle.records.specs.Room.{rows}
-use Rattle.records.specs.Inner.{stepsOk, tellsSource, tellsSources, Steps}
+use Rattle.records.specs.Inner.{stepsOk, tellsSource, tellsSources, suitsSource, suits, Steps}
 use Rattle.records.specs.declared.faults.PlanFault.{PlanFault}
 use Rattle.records.specs.declared.faults.PlanFault.the-variants.{TooShort, Version, Length, Shape}
 use Rattle.records.specs.declared.faults.PlanCheck.{PlanCheck}
@@ -26,11 +26,11 @@ use Rattle.records.proofs.Laws.Rows.{rows-length, rows-at}
 
 -- ---- the width of a move
 
-module _ (s : List ℕ) where
-  two-or-three : (b : Bool) → (2 ≤ pick b 3 2) × (pick b 3 2 ≤ 3)
-  two-or-three true = (omega arith, omega arith)
-  two-or-three false = (omega arith, omega arith)
+pub two-or-three : (b : Bool) → (2 ≤ pick b 3 2) × (pick b 3 2 ≤ 3)
+two-or-three true = (omega arith, omega arith)
+two-or-three false = (omega arith, omega arith)
 
+module _ (s : List ℕ) where
   pub width-least : 2 ≤ moveWidth s
   unfolding moveWidth
   width-least = two-or-three (namesSources (versionOf s)) .0
@@ -211,18 +211,25 @@ passed false f rest e = (refl, e)
 module _ (s : List ℕ) (w : planCheck s ≡ Whole) where
   -- if it has bytes
   module _ (h : 0 < length s) where
-    parts : (7 ≤ length s) × (shaped (stepsOf s) ≡ true) × (stepsEnd s 7 (stepCount s) ≡ length s)
+    parts : (7 ≤ length s) × (shaped (stepsOf s) ≡ true) × (stepsEnd s 7 (stepCount s) ≡ length s) × (knownVersion (versionOf s) ≡ true)
     unfolding planCheck
     parts =
         let a = passed (ltb (length s) 7) TooShort _ (rw (ne-eqb (length s) 0 (λ q. omega arith)) at w) in
         let b = passed (not (knownVersion (versionOf s))) Version _ (a .1) in
         let c = passed (not (eqb (be32 s 1) (length s))) Length _ (b .1) in
         let d = passed (not (shaped (stepsOf s) && eqb (stepsEnd s 7 (stepCount s)) (length s))) Shape Whole (c .1) in
-        let e = not-false (shaped (stepsOf s) && eqb (stepsEnd s 7 (stepCount s)) (length s)) (d .0) in
-        (ltb-false (length s) 7 (a .0), and-left (shaped (stepsOf s)) _ e, eqb-true _ _ (and-right (shaped (stepsOf s)) _ e))
+        let e = not-false (shaped (stepsOf s) && eqb (stepsEnd s 7 (stepCount s)) (length s)) (d .0) in (
+          ltb-false (length s) 7 (a .0),
+          and-left (shaped (stepsOf s)) _ e,
+          eqb-true _ _ (and-right (shaped (stepsOf s)) _ e),
+          not-false (knownVersion (versionOf s)) (b .0),
+        )
 
     pub plan-long : 7 ≤ length s
     plan-long = parts .0
+
+    pub plan-known : knownVersion (versionOf s) ≡ true
+    plan-known = parts .3
 
   pub plan-shaped : shaped (stepsOf s) ≡ true
   unfolding shaped moveTotal sumOf all
@@ -253,6 +260,11 @@ end-suc s at n = refl
 pub total-cons : (step : Step) (steps : List Step) → moveTotal (step ∷ steps) ≡ length step + moveTotal steps
 unfolding moveTotal sumOf
 total-cons step steps = refl
+
+pub total-append : (xs ys : List Step) → moveTotal (xs ++ ys) ≡ moveTotal xs + moveTotal ys
+unfolding moveTotal sumOf
+total-append [] ys = omega arith
+total-append (x ∷ xs) ys = let a : sumOf length (xs ++ ys) ≡ sumOf length xs + sumOf length ys = total-append xs ys in omega arith
 
 module _ (s : List ℕ) (at left : ℕ) (w : Steps s at left) (z : 0 < left) where
   less : left ≡ suc (left - 1)
@@ -318,6 +330,11 @@ move-unnamed s at i names e h t =
 
 -- ---- what is the same of every move, and how long a record can be
 
+suited : (b : Bool) (x : ℕ) → suitsSource b (pick b (Named x) Unnamed) ≡ true
+unfolding suitsSource tellsSource
+suited true x = refl
+suited false x = refl
+
 rows-all : {A : Type 0} (q : A → Bool) (read : ℕ → A) (width at n : ℕ) → ((place : ℕ) → q (read place) ≡ true) → all q (rows read width at n) ≡ true
 unfolding rows all
 rows-all q read width at zero e = refl
@@ -333,7 +350,11 @@ module _ (s : List ℕ) (q : Move → Bool) (e : (place : ℕ) → q (moveAt s p
   unfolding stepsOf
   each-move = each-from 7 (stepCount s)
 
--- version 2 names the source of every move, any other of none
+-- every move suits the version of its record: version 2 names the source of every move, any other of none
+pub all-suit : (s : List ℕ) → all (suits (versionOf s)) (stepsOf s) ≡ true
+unfolding suits moveAt sourceAt
+all-suit s = each-move s (λ move. suitsSource (namesSources (versionOf s)) (move .source)) (λ place. suited (namesSources (versionOf s)) (byteAt s (place + 1)))
+
 pub all-tell : (s : List ℕ) → versionOf s ≡ 2 → all tellsSources (stepsOf s) ≡ true
 unfolding tellsSources moveAt sourceAt namesSources tellsSource
 all-tell s e = each-move s (λ move. tellsSource (move .source)) (λ place. rw e refl)

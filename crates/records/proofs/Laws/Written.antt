@@ -1,15 +1,16 @@
 -- Laws on bytes written into a buffer.
-use Prim.Native.Nat.{ℕ, zero, suc, _+_, _-_, _*_, _/_, _%_, _≤_, _<_}
+use Prim.Native.Nat.{ℕ, suc, _+_, _-_, _/_, _%_, _≤_, _<_}
 use mathlib.Core.List.{List, [], _∷_, _++_, append-assoc}
 use mathlib.Core.Path.{_≡_, refl, sym, ap, _∙_}
 use native.Mathlib.Nat.{add-assoc, zero-add}
 use native.Mathlib.Numerals.{add-one, add-two, add-three}
 use native.Mathlib.Omega.{arith}
-use lib.ListN.{length, getD, set, take, drop, length-append, length-take, length-drop}
-use lib.Seq.{take-suc, take-suc-set, drop-set-lt, sets, sets-eq, length-take-le, take-append-le, drop-append-le, drop-append-add, take-at, drop-at, drop-drop, take-take}
+use lib.ListN.{length, getD, set, take, drop, length-append, length-drop}
+use lib.Seq.{take-suc, take-suc-set, drop-set-lt, sets, sets-eq, length-take-le, take-at, drop-at, drop-drop, take-take}
 use Rattle.records.specs.Bytes.{bytes16, bytes32}
-use Rattle.records.specs.Plan.{Move, sourceBytes, moveBytes, headerBytes, writtenVersion, writtenWidth, written}
-use Rattle.records.specs.declared.plan.Source.the-variants.{Named}
+use Rattle.records.specs.Plan.{sourceBytes, moveBytes, movesBytes, stepBytes, headerBytes, writtenWidth, written}
+use Rattle.records.specs.declared.plan.Source.{Source}
+use Rattle.records.specs.declared.plan.Source.the-variants.{Unnamed, Named}
 
 -- single stores, one behind the other
 pub sets-written : (l : List ℕ) (at : ℕ) (bytes : List ℕ) → at + length bytes ≤ length l → sets l at bytes ≡ written l at bytes
@@ -109,13 +110,13 @@ unfolding written
 written-zero l bytes = ap (λ (n : ℕ). bytes ++ drop n l) (zero-add (length bytes))
 
 -- the header, written from its end
-pub header-written : (l m n : List ℕ) (end steps : ℕ) → m ≡ written l 5 (bytes16 steps) → n ≡ written m 1 (bytes32 end) → 7 ≤ length l →
-    set n 0 writtenVersion ≡ written l 0 (headerBytes writtenVersion end steps)
+pub header-written : (l m n : List ℕ) (version end steps : ℕ) → m ≡ written l 5 (bytes16 steps) → n ≡ written m 1 (bytes32 end) → 7 ≤ length l →
+    set n 0 version ≡ written l 0 (headerBytes version end steps)
 unfolding headerBytes bytes16 bytes32
-header-written l m n end steps e f h =
-    sets-written n 0 (writtenVersion ∷ []) (rw nl (omega arith)) ∙
-    ap (λ (x : List ℕ). written x 0 (writtenVersion ∷ [])) nm ∙
-    written-earlier l 0 (writtenVersion ∷ []) (bytes32 end ++ bytes16 steps) h
+header-written l m n version end steps e f h =
+    sets-written n 0 (version ∷ []) (rw nl (omega arith)) ∙
+    ap (λ (x : List ℕ). written x 0 (version ∷ [])) nm ∙
+    written-earlier l 0 (version ∷ []) (bytes32 end ++ bytes16 steps) h
   where
     ml : length m ≡ length l
     ml = ap length e ∙ written-length l 5 (bytes16 steps) h
@@ -125,6 +126,44 @@ header-written l m n end steps e f h =
 
     nm : n ≡ written l 1 (bytes32 end ++ bytes16 steps)
     nm = f ∙ ap (λ (x : List ℕ). written x 1 (bytes32 end)) e ∙ written-earlier l 1 (bytes32 end) (bytes16 steps) h
+
+-- a step of one move: its count, its VM, its source if it names one, its destination
+module _ (l m : List ℕ) (at vm to : ℕ) (e : m ≡ written l at (bytes16 1)) where
+  behind-count : (bytes : List ℕ) → at + 2 + length bytes ≤ length l → sets m (at + 2) bytes ≡ written l at (bytes16 1 ++ bytes)
+  unfolding bytes16
+  behind-count bytes k =
+      let long = ap length e ∙ written-length l at (bytes16 1) (omega arith) in
+      sets-written m (at + 2) bytes (rw long k) ∙ ap (λ (x : List ℕ). written x (at + 2) bytes) e ∙ written-next l at (bytes16 1) bytes k
+
+  pub plain-written : at + 4 ≤ length l → set (set m (at + 2) vm) (at + 3) to ≡ written l at (stepBytes (record { vm = vm; source = Unnamed; to = to } ∷ []))
+  unfolding stepBytes movesBytes moveBytes sourceBytes bytes16
+  plain-written h = let k : at + 3 ≡ suc (at + 2) = omega arith in rw k (behind-count (vm ∷ to ∷ []) (omega arith))
+
+  pub naming-written : (source : ℕ) → at + 5 ≤ length l →
+      set (set (set m (at + 2) vm) (at + 3) source) (at + 4) to ≡ written l at (stepBytes (record { vm = vm; source = Named source; to = to } ∷ []))
+  unfolding stepBytes movesBytes moveBytes sourceBytes bytes16
+  naming-written source h =
+      let k : at + 3 ≡ suc (at + 2) = omega arith in
+      let j : at + 4 ≡ suc (suc (at + 2)) = omega arith in
+      rw (k, j) (behind-count (vm ∷ source ∷ to ∷ []) (omega arith))
+
+-- by whether it names a source
+module _ (l m : List ℕ) (at vm to r : ℕ) (source : Source) where
+  module _ (s : source ≡ Unnamed) where
+    pub plain-end : r ≡ at + 4 → r ≡ at + length (stepBytes (record { vm = vm; source = source; to = to } ∷ []))
+    unfolding stepBytes movesBytes moveBytes sourceBytes bytes16
+    plain-end e = rw s e
+
+    pub plain-put : m ≡ written l at (stepBytes (record { vm = vm; source = Unnamed; to = to } ∷ [])) → m ≡ written l at (stepBytes (record { vm = vm; source = source; to = to } ∷ []))
+    plain-put e = rw s e
+
+  module _ (from : ℕ) (s : source ≡ Named from) where
+    pub naming-end : r ≡ at + 5 → r ≡ at + length (stepBytes (record { vm = vm; source = source; to = to } ∷ []))
+    unfolding stepBytes movesBytes moveBytes sourceBytes bytes16
+    naming-end e = rw s e
+
+    pub naming-put : m ≡ written l at (stepBytes (record { vm = vm; source = Named from; to = to } ∷ [])) → m ≡ written l at (stepBytes (record { vm = vm; source = source; to = to } ∷ []))
+    naming-put e = rw s e
 
 -- ---- a list put into a buffer element by element: the first i are those of the list, the others as they were
 

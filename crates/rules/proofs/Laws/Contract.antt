@@ -6,7 +6,7 @@ use mathlib.Core.Logic.{_↔_, _⊎_, Iff·trans}
 use mathlib.Core.Path.{_≡_, refl, sym, ap, _∙_}
 use lib.ListN.{length}
 use Rattle.records.specs.Bytes.{AreBytes}
-use Rattle.records.specs.Room.{mostReserve, roomOf, roomAt, clusterCheck}
+use Rattle.records.specs.Room.{roomOf, roomAt, clusterCheck}
 use Rattle.records.specs.Plan.{Step, stepsOf, headerBytes}
 use Rattle.records.specs.declared.faults.ClusterCheck.{ClusterCheck}
 use Rattle.records.proofs.Laws.Cluster.{nodes-most}
@@ -31,6 +31,7 @@ use Rattle.rules.proofs.Laws.Waiting.{waits-its-turn}
 use Rattle.rules.proofs.Laws.Bound.{first-there}
 use Rattle.rules.proofs.Laws.Sources.{names-places, unnamed-sourced, sources-unread}
 use Rattle.rules.proofs.Laws.Costs.{cost-low}
+use Rattle.rules.proofs.Laws.Divided.{accepted-divided}
 use Rattle.rules.proofs.Laws.Verdicts.{names-fault, source-fault, destination-fault, fit-fault, mate-fault, turn-fault, first-fault, ends-away, current-length, accepted-steps, only-holds, exact-holds, step-refusal, none-elsewhere, reserve-refusal, end-refusal, step-most, empty-as-header}
 
 beside : {A B C : Type 0} → A ↔ B → (C × A) ↔ (C × B)
@@ -115,6 +116,7 @@ module _ (reserve : ℕ) (cluster plan : List ℕ) (b : AreBytes cluster) where
           let x = unnamed-sourced (currentOf (roomAt reserve cluster)) (stepsOf plan) (none-tells plan v) in
           (x, λ n s. none-elsewhere reserve cluster plan x n (says (Fault.Step StepFault.Elsewhere n) .0 s));
       empty = λ e version k. rw e (empty-as-header reserve cluster version k);
+      divided = λ g. accepted-divided reserve cluster plan (toldCost r) (accepted g);
       sound = sound-orders (roomAt reserve cluster);
     }
 

@@ -28,7 +28,7 @@ never e = absurd (omega arith)
 or-first : {a : Bool} (b : Bool) → a ≡ true → (a || b) ≡ true
 or-first b e = rw e
 
-or-second : (a : Bool) {b : Bool} → b ≡ true → (a || b) ≡ true
+pub or-second : (a : Bool) {b : Bool} → b ≡ true → (a || b) ≡ true
 or-second a e = rw e (or-true a)
 
 -- ---- what fault 15 rules out

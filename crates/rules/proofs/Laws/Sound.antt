@@ -1,25 +1,23 @@
--- Laws on sound steps: what the first fault says of the six tests; a part of a sound step is sound.
-use Prim.Native.Nat.{ℕ, zero, suc, _≤_, _<_}
+-- Laws on sound steps: what the first fault says of the six tests; the names and phases of a part of a step; a step with no more on any node than another.
+use Prim.Native.Nat.{ℕ, suc, _≤_, _<_}
 use mathlib.Core.Bool.{Bool, true, false, not, _&&_}
-use mathlib.Core.List.{List, [], _∷_, Sublistᴰ, Sublistᴰ·slnil, Sublistᴰ·cons, Sublistᴰ·cons-cons}
+use mathlib.Core.List.{[], _∷_, Sublistᴰ, Sublistᴰ·slnil, Sublistᴰ·cons, Sublistᴰ·cons-cons}
 use mathlib.Core.Logic.{_↔_, _⊎_, inl, inr}
 use mathlib.Core.Path.{_≡_, refl, sym, ap, _∙_}
 use native.Mathlib.Omega.{arith}
-use lib.ListN.{length}
 use lib.Dec.{eqb}
 use borrow.Author.Tests.{eqb-true, ne-eqb}
 use Rattle.records.specs.Base.{pick, all}
 use Rattle.records.specs.Room.{Room, vmOf}
 use Rattle.records.specs.Plan.{Move, Step}
 use Rattle.records.proofs.Laws.Bools.{and-left, and-right, and-both, all-more}
-use Rattle.rules.specs.Moments.{Placement, placeOf, staying, waiting, cell, countsOn, bearsAt, tallyAt, phaseOf, cellsFrom, firstMoment, begun, allRunning}
+use Rattle.rules.specs.Moments.{Placement, staying, waiting, cell, countsOn, bearsAt, tallyAt, phaseOf, firstMoment, begun, allRunning}
 use Rattle.rules.specs.Orders.{meetsMate}
-use Rattle.rules.specs.Rules.{allowed, named, sourced, permitted, fitting, unmet, inTurn, stepCheck, soundStep}
+use Rattle.rules.specs.Rules.{named, sourced, permitted, fitting, unmet, inTurn, stepCheck, soundStep}
 use Rattle.rules.specs.declared.faults.StepFault.the-variants.{Misnamed, Elsewhere, Forbidden, Misfit, Mate, Early}
 use Rattle.rules.specs.declared.faults.StepCheck.{StepCheck}
 use Rattle.rules.specs.declared.faults.StepCheck.the-variants.{Clear, Faulty}
-use Rattle.rules.proofs.Laws.Orders.{never, Under, empty, both, meets-under, bears-under, named-least, named-vm, named-sends, named-off, named-rest, named-cons}
-use Rattle.rules.proofs.Laws.Turn.{turn-part}
+use Rattle.rules.proofs.Laws.Orders.{never, Under, meets-under, bears-under, named-least, named-vm, named-sends, named-off, named-rest, named-cons}
 
 -- the first fault from the tests
 abbrev found : Bool → Bool → Bool → Bool → Bool → Bool → StepCheck
@@ -205,13 +203,7 @@ module _ (room : Room) (places : Placement) (step : Step) where
     λ t. simp (t .well-named, t .well-sourced, t .permitted, t .fit, t .apart, t .early),
   )
 
--- ---- a part of a sound step, its moves in order, is sound
-
-pub all-part : {A : Type 0} (q : A → Bool) {part whole : List A} → Sublistᴰ part whole → all q whole ≡ true → all q part ≡ true
-unfolding all
-all-part q Sublistᴰ·slnil e = e
-all-part q (Sublistᴰ·cons {a = a} {l₂ = l} s) e = all-part q s (and-right (q a) (all q l) e)
-all-part q (Sublistᴰ·cons-cons {b = b} {l₂ = l} p s) e = and-both (ap q p ∙ and-left (q b) (all q l) e) (all-part q s (and-right (q b) (all q l) e))
+-- ---- a part of a step, its moves in order
 
 module _ (room : Room) (places : Placement) where
   pub named-part : (low least : ℕ) {part whole : Step} → Sublistᴰ part whole → low ≤ least → named room places least whole ≡ true → named room places low part ≡ true
@@ -260,7 +252,7 @@ module _ (room : Room) (places : Placement) where
       go false w = w
 
 -- a VM counts on its place with every move running, moved or not
-counts-place : (d v p : ℕ) (step : Step) → eqb p d ≡ true → countsOn d (cell v p (begun (phaseOf step v))) ≡ true
+pub counts-place : (d v p : ℕ) (step : Step) → eqb p d ≡ true → countsOn d (cell v p (begun (phaseOf step v))) ≡ true
 unfolding phaseOf begun countsOn
 counts-place d v p [] e = e
 counts-place d v p (move ∷ moves) e = picked (eqb (move .vm) v) (counts-place d v p moves e)
@@ -270,51 +262,25 @@ counts-place d v p (move ∷ moves) e = picked (eqb (move .vm) v) (counts-place 
     picked true h = rw e
     picked false h = h
 
-module _ (room : Room) (places : Placement) {part whole : Step} (s : Sublistᴰ part whole) (n : named room places 0 whole ≡ true) where
-  -- with every move running the part is under the whole
-  pub under-whole : (d v k : ℕ) → Under d (allRunning (cellsFrom places part v k)) (allRunning (cellsFrom places whole v k))
-  unfolding cellsFrom allRunning begun countsOn
-  under-whole d v zero = empty
-  under-whole d v (suc k) = both (counts (phase-part room places 0 s v n)) (under-whole d (suc v) k)
-    where
-      counts : (phaseOf part v ≡ staying) ⊎ (phaseOf part v ≡ phaseOf whole v) →
-          countsOn d (cell v (placeOf places v) (begun (phaseOf part v))) ≡ true → countsOn d (cell v (placeOf places v) (begun (phaseOf whole v))) ≡ true
-      counts (inl i) e = counts-place d v (placeOf places v) whole (rw i at e)
-      counts (inr i) e = rw i at e
-
-  under-first : (d : ℕ) → Under d (allRunning (firstMoment room places part)) (allRunning (firstMoment room places whole))
-  unfolding firstMoment
-  under-first d = under-whole d 0 (length (room .vms))
-
-  pub fitting-part : fitting room places whole ≡ true → fitting room places part ≡ true
+-- a step that, with all moves running, has no more on any node than another step at a placement of its own: where its destinations bear the other's tallies
+-- they bear its own, and whom its VMs do not meet there they do not meet here
+module _ (room : Room) (places next : Placement) (part whole : Step)
+    (under : (d : ℕ) → Under d (allRunning (firstMoment room next part)) (allRunning (firstMoment room places whole))) where
+  pub fitting-under : all (λ move. bearsAt room (move .to) (tallyAt room (move .to) (allRunning (firstMoment room places whole))) (vmOf room (move .vm))) part ≡ true → fitting room next part ≡ true
   unfolding fitting
-  fitting-part e =
+  fitting-under e =
       all-more (λ move. bearsAt room (move .to) (tallyAt room (move .to) (allRunning (firstMoment room places whole))) (vmOf room (move .vm)))
-      (λ move. bearsAt room (move .to) (tallyAt room (move .to) (allRunning (firstMoment room places part))) (vmOf room (move .vm)))
-      (λ move h. bears-under room (vmOf room (move .vm)) (under-first (move .to)) h) part
-      (all-part (λ move. bearsAt room (move .to) (tallyAt room (move .to) (allRunning (firstMoment room places whole))) (vmOf room (move .vm))) s e)
+      (λ move. bearsAt room (move .to) (tallyAt room (move .to) (allRunning (firstMoment room next part))) (vmOf room (move .vm)))
+      (λ move h. bears-under room (vmOf room (move .vm)) (under (move .to)) h) part e
 
-  pub unmet-part : unmet room places whole ≡ true → unmet room places part ≡ true
+  pub unmet-under : all (λ move. not (meetsMate room (allRunning (firstMoment room places whole)) (move .vm) (move .to))) part ≡ true → unmet room next part ≡ true
   unfolding unmet
-  unmet-part e =
+  unmet-under e =
       all-more (λ move. not (meetsMate room (allRunning (firstMoment room places whole)) (move .vm) (move .to)))
-      (λ move. not (meetsMate room (allRunning (firstMoment room places part)) (move .vm) (move .to)))
-      (λ move h. fewer (meetsMate room (allRunning (firstMoment room places part)) (move .vm) (move .to))
-      (meetsMate room (allRunning (firstMoment room places whole)) (move .vm) (move .to)) (met (move .vm) (move .to)) h) part
-      (all-part (λ move. not (meetsMate room (allRunning (firstMoment room places whole)) (move .vm) (move .to))) s e)
+      (λ move. not (meetsMate room (allRunning (firstMoment room next part)) (move .vm) (move .to)))
+      (λ move h. fewer (meetsMate room (allRunning (firstMoment room next part)) (move .vm) (move .to))
+      (meetsMate room (allRunning (firstMoment room places whole)) (move .vm) (move .to)) (meets-under room (move .vm) (under (move .to))) h) part e
     where
       fewer : (a b : Bool) → (a ≡ true → b ≡ true) → not b ≡ true → not a ≡ true
       fewer false b h e = refl
       fewer true b h e = sym (ap not (h refl)) ∙ e
-
-      met : (v d : ℕ) → meetsMate room (allRunning (firstMoment room places part)) v d ≡ true → meetsMate room (allRunning (firstMoment room places whole)) v d ≡ true
-      met v d e = meets-under room v (under-first d) e
-
-pub sound-part : (room : Room) (places : Placement) {part whole : Step} → Sublistᴰ part whole → soundStep room places whole ≡ true → soundStep room places part ≡ true
-unfolding permitted
-sound-part room places {part} {whole} s e =
-    let n = sound-named room places whole e in
-    sound-tests room places part (named-part room places 0 0 s (omega arith) n)
-    (all-part (λ move. allowed room (move .vm) (move .to)) s (sound-permitted room places whole e))
-    (fitting-part room places s n (sound-fitting room places whole e)) (unmet-part room places s n (sound-unmet room places whole e))
-    (turn-part room places s (sound-turn room places whole e))

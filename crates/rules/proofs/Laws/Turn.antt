@@ -1,10 +1,10 @@
--- Laws on VMs that wait for others: what a step in turn says of them, and that its parts are in turn too, in a step of their own or behind
--- other parts of it.
+-- Laws on VMs that wait for others: what a step in turn says of them, and that a step with fewer moves is in turn too, where whoever the whole does not move is
+-- where it was.
 use Prim.Native.Nat.{ℕ}
-use mathlib.Core.Bool.{Bool, true, false, not, _&&_, _||_, false≢true, or-true, or-false, or-assoc}
-use mathlib.Core.List.{List, [], _∷_, _++_, Sublistᴰ, Sublistᴰ·slnil, Sublistᴰ·cons, Sublistᴰ·cons-cons}
+use mathlib.Core.Bool.{Bool, true, false, not, _&&_, _||_, false≢true, or-false, or-assoc}
+use mathlib.Core.List.{List, [], _∷_, _++_}
 use mathlib.Core.Path.{_≡_, refl, sym, ap, _∙_}
-use lib.ListN.{getD, set}
+use lib.ListN.{set}
 use lib.Seq.{getD-set-other}
 use lib.Dec.{eqb}
 use borrow.Author.Tests.{eqb-true, eqb-false, not-true}
@@ -12,10 +12,9 @@ use Rattle.records.specs.Base.{pick, all}
 use Rattle.records.specs.Room.{Constraint, ban, fence, spread, latency, before, Room}
 use Rattle.records.specs.Plan.{Move, Step}
 use Rattle.records.proofs.Laws.Bools.{and-left, and-right, and-both, all-more}
-use Rattle.rules.specs.Moments.{Placement, placeOf, targetOf, atTarget, after, staying, waiting, phaseOf}
+use Rattle.rules.specs.Moments.{Placement, placeOf, atTarget, after, staying, waiting, phaseOf}
 use Rattle.rules.specs.Orders.{some}
 use Rattle.rules.specs.Rules.{hasMove, respects, inTurn, puts, waitsFor}
-use Rattle.rules.specs.Promises.{afterAll}
 
 -- ---- the moves of a step
 
@@ -40,17 +39,6 @@ still-place places (move ∷ moves) v e = go (eqb (move .vm) v) refl e (still-pl
     go true q e more = absurd (false≢true (sym e))
     go false q e more =
         more e ∙ getD-set-other places (move .vm) v (move .to) 0 (λ x. eqb-false (move .vm) v q (sym x))
-
--- what a part moves, the whole moves
-has-part : {part whole : Step} → Sublistᴰ part whole → (v : ℕ) → hasMove part v ≡ true → hasMove whole v ≡ true
-unfolding hasMove some
-has-part Sublistᴰ·slnil v e = e
-has-part (Sublistᴰ·cons {a = move} {l₂ = moves} s) v e = rw (has-part s v e) (or-true (eqb (move .vm) v))
-has-part (Sublistᴰ·cons-cons {a = a} {b = b} {l₁ = part} {l₂ = moves} p s) v e = go (eqb (b .vm) v) (ap (λ (x : Move). eqb (x .vm) v || hasMove part v) (sym p) ∙ e) (has-part s v)
-  where
-    go : (x : Bool) → (x || hasMove part v) ≡ true → (hasMove part v ≡ true → hasMove moves v ≡ true) → (x || hasMove moves v) ≡ true
-    go true e more = refl
-    go false e more = more e
 
 -- ---- a step in turn
 
@@ -124,7 +112,7 @@ module _ (room : Room) (places next : Placement) (part whole : Step) (fewer : (u
           let s = not-true (hasMove whole first) (and-right (atTarget room places first) _ t) in
           and-both {a = atTarget room next first} {b = not (hasMove part first)} (rw (same first s) (and-left (atTarget room places first) _ t)) (still (hasMove part first) refl s)
 
-  turn-less : inTurn room places whole ≡ true → inTurn room next part ≡ true
+  pub turn-less : inTurn room places whole ≡ true → inTurn room next part ≡ true
   unfolding inTurn
   turn-less e = all-more (respects room places whole) (respects room next part) respects-part (room .constraints) e
 
@@ -152,28 +140,3 @@ pub has-snoc : (step : Step) (move : Move) (v : ℕ) → hasMove (step ++ (move 
 unfolding hasMove some
 has-snoc [] move v = or-false (eqb (move .vm) v)
 has-snoc (m ∷ ms) move v = ap (λ (b : Bool). eqb (m .vm) v || b) (has-snoc ms move v) ∙ sym (or-assoc (eqb (m .vm) v) (hasMove ms v) (eqb (move .vm) v))
-
-pub turn-part : (room : Room) (places : Placement) {part whole : Step} → Sublistᴰ part whole → inTurn room places whole ≡ true → inTurn room places part ≡ true
-turn-part room places {part} {whole} s e = turn-less room places places part whole (has-part s) (λ u h. refl) e
-
--- ---- the pieces of a divided step
-
--- each of the pieces has moves of the whole only
-abbrev pub Pieces : Step → List Step → Type 0
-Pieces whole [] = Unit
-Pieces whole (piece ∷ pieces) = Sublistᴰ piece whole × Pieces whole pieces
-
--- whom the whole does not move, no piece moves
-unmoved : (places : Placement) (whole : Step) (pieces : List Step) → Pieces whole pieces → (u : ℕ) → hasMove whole u ≡ false → placeOf (afterAll places pieces) u ≡ placeOf places u
-unfolding afterAll
-unmoved places whole [] p u h = refl
-unmoved places whole (piece ∷ pieces) p u h = unmoved (after places piece) whole pieces (p .1) u h ∙ still-place places piece u (go (hasMove piece u) refl)
-  where
-    go : (b : Bool) → hasMove piece u ≡ b → b ≡ false
-    go true q = absurd (false≢true (sym h ∙ has-part (p .0) u q))
-    go false q = refl
-
--- behind any pieces of a step in turn, one more piece is in turn: a first stays where it was while the step that waited for it is divided
-pub turn-pieces : (room : Room) (places : Placement) (whole : Step) (earlier : List Step) (piece : Step) → Pieces whole earlier → Sublistᴰ piece whole →
-    inTurn room places whole ≡ true → inTurn room (afterAll places earlier) piece ≡ true
-turn-pieces room places whole earlier piece p s e = turn-less room places (afterAll places earlier) piece whole (has-part s) (unmoved places whole earlier p) e

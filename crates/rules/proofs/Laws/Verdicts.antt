@@ -560,6 +560,14 @@ module _ (reserve : ℕ) (cluster plan : List ℕ) where
       omega arith
   step-most Fault.OffTarget e = omega arith
 
+-- an accepted plan, for the calls behind the checker: both records are whole
+module _ (reserve : ℕ) (cluster plan : List ℕ) (v : Verdict) (e : v ≡ verdictOf reserve cluster plan) (cost : ℕ) (a : v ≡ Verdict.Accepted cost) where
+  pub accepted-cluster : clusterCheck cluster ≡ ClusterCheck.Whole
+  accepted-cluster = only-holds reserve cluster plan cost (sym e ∙ a) .0 .taken .cluster-whole
+
+  pub accepted-plan : planCheck plan ≡ PlanCheck.Whole
+  accepted-plan = only-holds reserve cluster plan cost (sym e ∙ a) .0 .plan-whole
+
 -- ---- a plan of no steps
 
 module _ (reserve : ℕ) (cluster : List ℕ) where

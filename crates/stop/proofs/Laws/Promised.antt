@@ -7,24 +7,23 @@ use mathlib.Core.Path.{_≡_, refl, sym, ap, _∙_}
 use native.Mathlib.Omega.{arith}
 use lib.ListN.{length, getD, take, drop}
 use lib.Seq.{take-at}
-use lib.Dec.{ltb, leb, eqb}
+use lib.Dec.{ltb, leb}
 use borrow.Author.Tests.{lt-ltb, le-ltb, le-leb, eq-eqb, ltb-true, ltb-false, leb-true, leb-false}
 use Rattle.records.specs.Base.{pick, all}
 use Rattle.records.specs.Bytes.{AreBytes}
 use Rattle.records.specs.Room.{Room, nodeOf, roomOf, roomAt, atReserve, atPlaces, updated, clusterCheck}
-use Rattle.records.specs.Plan.{Step, stepsOf, planCheck, written}
+use Rattle.records.specs.Plan.{Step, stepsOf, written}
 use Rattle.records.specs.declared.faults.ClusterCheck.{ClusterCheck}
-use Rattle.records.specs.declared.faults.PlanCheck.{PlanCheck}
 use Rattle.records.proofs.Laws.Bools.{and-left, and-right, and-both}
 use Rattle.records.proofs.Laws.Cluster.{nodes-most, whole-most}
 use Rattle.records.proofs.Laws.Reserve.{room-nodes}
 use Rattle.records.proofs.Laws.Updated.{updated-length, updated-other, updated-room, updated-whole}
 use Rattle.records.proofs.Laws.Written.{written-zero}
 use Rattle.rules.specs.Moments.{Placement, currentOf, after, tallyAt, atRest}
-use Rattle.rules.specs.Rules.{named, targetCheck}
+use Rattle.rules.specs.Rules.{targetCheck}
 use Rattle.rules.specs.Verdict.{verdictOf, packed}
 use Rattle.rules.specs.Returned.{SaysGood, SaysRefused}
-use Rattle.rules.specs.Promises.{namedAll, Checked}
+use Rattle.rules.specs.Promises.{namedAll, Accepts, Checked}
 use Rattle.rules.specs.declared.faults.Fault.{Fault}
 use Rattle.rules.specs.declared.faults.Verdict.{Verdict}
 use Rattle.rules.proofs.Laws.Orders.{never, after-length}
@@ -33,7 +32,7 @@ use Rattle.rules.proofs.Laws.Returned.{accepted-says}
 use Rattle.rules.proofs.Laws.Verdicts.{only-holds, step-most, current-length}
 use Rattle.rules.proofs.Laws.Contract.{contract}
 use Rattle.stop.specs.Stops.{numbered, endedMoves, marked, marksOk, stoppedAt, stoppedRecord, acceptedStop, onVerdict, stopOf, bufferOf, packedStop, toldLength}
-use Rattle.stop.specs.Promises.{Stops, StoppedWell, Accepts, StepMarked, MarksKnown, TellsStop, Stopped, asPlaced}
+use Rattle.stop.specs.Promises.{Stops, StoppedWell, StepMarked, MarksKnown, TellsStop, Stopped, asPlaced}
 use Rattle.stop.specs.Inner.{Packs, arrayStopped, StopsAccepted}
 use Rattle.stop.specs.declared.outcome.StopFault.the-variants.{Check, NoStep, BadMark, Buffer}
 use Rattle.stop.specs.declared.outcome.Outcome.{Outcome}
@@ -171,13 +170,6 @@ own-short f e = never (cc)
 -- ---- the contracts of the inner functions
 
 module _ (reserve : ℕ) (cluster plan : List ℕ) (v : Verdict) (e : v ≡ verdictOf reserve cluster plan) where
-  module _ (cost : ℕ) (a : v ≡ Verdict.Accepted cost) where
-    pub accepted-cluster : clusterCheck cluster ≡ ClusterCheck.Whole
-    accepted-cluster = only-holds reserve cluster plan cost (sym e ∙ a) .0 .taken .cluster-whole
-
-    pub accepted-plan : planCheck plan ≡ PlanCheck.Whole
-    accepted-plan = only-holds reserve cluster plan cost (sym e ∙ a) .0 .plan-whole
-
   pub stops-refused : (n : ℕ) (marks before : List ℕ) (f : Fault) → v ≡ Verdict.Refused f → Stops reserve cluster plan n marks before before (Refused (Check f))
   unfolding bufferOf
   stops-refused n marks before f q = record { is = sym (refused-is reserve cluster plan n marks (length before) f (sym e ∙ q)); buffer = refl }

@@ -1,7 +1,8 @@
 //! Measures the library's `check` beside the model and the baseline on the inputs of `inputs`, each
 //! as a plan of version 1 and of version 2, after comparing library, baseline and model on both;
-//! with the planner, `build` beside the model on those of `rooms`; and `stop` beside both. Buffers are not cleared between
-//! calls, so caches are warm. With `--agree` it compares and measures nothing.
+//! with the planner, `build` beside the model on those of `rooms`; and `stop` and `split` beside both.
+//! Buffers are not cleared between calls, so caches are warm. With `--agree` it compares and measures
+//! nothing.
 
 use kobdrieft_harness::inputs::{all, Input, Outcome};
 use kobdrieft_harness::timing::measure;
@@ -29,10 +30,12 @@ fn main() {
     if only_agree {
         planning::agree();
         stopping::agree();
+        dividing::agree();
     } else {
         print_table(&inputs);
         planning::builds();
         stopping::stops();
+        dividing::splits();
     }
 }
 
@@ -292,6 +295,116 @@ mod stopping {
         for room in (0..50).map(|_| streams::large(&mut rooms)) {
             let (plan, _) = &room.plans[0];
             compare(0, &room.cluster, plan, &some_stop(&mut rng, &room.cluster, plan));
+        }
+        compared
+    }
+}
+
+// ---------------------------------------------------------------- splits
+mod dividing {
+    use super::expect;
+    use kobdrieft_harness::inputs::{cuts, Cut};
+    use kobdrieft_harness::timing::measure;
+    use kobdrieft_harness::{baseline, split, streams};
+    use kobdrieft_model::edges::{edges, split_edges};
+    use kobdrieft_model::gen::{cases, either, Rng};
+    use kobdrieft_model::split::BUFFER;
+    use kobdrieft_model::splits::{many_moves, some_buffer};
+    use kobdrieft_model::{self as model, cluster_bytes, pack_split, plan_bytes};
+    use std::cell::RefCell;
+    use std::hint::black_box;
+
+    /// A call: reserve, cluster, plan and buffer to a packed answer.
+    type Call = fn(u64, &[u8], &[u8], &mut [u8]) -> u64;
+
+    fn by_model(reserve: u64, cluster: &[u8], plan: &[u8], out: &mut [u8]) -> u64 {
+        pack_split(model::split(reserve, cluster, plan, out))
+    }
+
+    /// A row for each plan in each version.
+    pub fn splits() {
+        println!("\n| split | version | plan bytes | steps | moves | answer | library µs | model µs | ratio | baseline µs | ratio |");
+        println!("|---|{}", "--:|".repeat(10));
+        for cut in cuts() {
+            verify(&cut);
+            let moves: usize = cut.input.steps.iter().map(Vec::len).sum();
+            let answer = if cut.number == 0 { "done".into() } else { cut.number.to_string() };
+            for (version, plan) in (1..).zip(&cut.input.plans) {
+                let out = RefCell::new(vec![0; BUFFER]);
+                let call = |call: Call| {
+                    let (input, out) = (&cut.input, &mut out.borrow_mut()[..]);
+                    call(black_box(input.reserve), black_box(&input.cluster), black_box(plan), out)
+                };
+                let times =
+                    measure([&|| call(split), &|| call(by_model), &|| call(baseline::split)]);
+                let [library, plain, simple] = times.map(|time| time.nanos / 1e3);
+                println!(
+                    "| {} | {version} | {} | {} | {moves} | {answer} | {library:.2} | {plain:.2} | {:.2} | {simple:.2} | {:.2} |",
+                    cut.name,
+                    plan.len(),
+                    cut.input.steps.len(),
+                    library / plain,
+                    library / simple
+                );
+            }
+        }
+    }
+
+    /// Stops unless library, baseline and model agree on all that is measured, and baseline and model on
+    /// other splits.
+    pub fn agree() {
+        let cuts = cuts();
+        cuts.iter().for_each(verify);
+        println!("library, baseline and model agree on {} splits", 2 * cuts.len());
+        println!("baseline and model agree on {} more", verify_baseline());
+    }
+
+    fn verify(cut: &Cut) {
+        let Cut { name, input, number } = cut;
+        for plan in &input.plans {
+            let [model, library, simple] = [by_model as Call, split, baseline::split]
+                .map(|call| answer(call, input.reserve, &input.cluster, plan, BUFFER));
+            let outcome = if model.0 >> 62 == 0 { 0 } else { (model.0 >> 16) as u8 };
+            expect(outcome == *number, name, "the model's outcome is another");
+            expect(library == model, name, "the library differs");
+            expect(simple == model, name, "the baseline differs");
+        }
+    }
+
+    /// What a call gives, and the buffer after it.
+    fn answer(
+        call: Call,
+        reserve: u64,
+        cluster: &[u8],
+        plan: &[u8],
+        buffer: usize,
+    ) -> (u64, Vec<u8>) {
+        let mut out = vec![7; buffer];
+        (call(reserve, cluster, plan, &mut out), out)
+    }
+
+    /// Compares the baseline with the model on other splits; how many.
+    fn verify_baseline() -> usize {
+        let mut compared = 0;
+        let mut compare = |reserve: u64, cluster: &[u8], plan: &[u8], buffer: usize| {
+            let [model, simple] = [by_model as Call, baseline::split]
+                .map(|call| answer(call, reserve, cluster, plan, buffer));
+            expect(simple == model, "a generated split", "the baseline differs");
+            compared += 1;
+        };
+        split_edges().iter().for_each(|e| compare(e.reserve, &e.cluster, &e.plan, e.buffer));
+        edges().iter().for_each(|e| compare(e.reserve, &e.cluster, &e.plan, BUFFER));
+        let mut rng = Rng::new(5);
+        for case in cases(6, 10_000) {
+            compare(0, &case.cluster, &case.plan, some_buffer(&mut rng));
+        }
+        for _ in 0..100 {
+            let (room, steps) = many_moves(&mut rng);
+            let plan = plan_bytes(&either(&mut rng, &room, &steps));
+            compare(0, &cluster_bytes(&room), &plan, some_buffer(&mut rng));
+        }
+        for room in (0..50).map(|_| streams::large(&mut rng)).collect::<Vec<_>>() {
+            room.plans.iter().for_each(|(plan, _)| compare(0, &room.cluster, plan, BUFFER));
         }
         compared
     }

@@ -1,7 +1,7 @@
-//! `program PATH SEED COUNT [--reserve | --stop]`: runs the planning program on hand-set, generated and
-//! larger clusters, and compares what it prints with the model's text. With `--reserve` the program takes
-//! a reserve in decimal digits as its first argument. With `--stop` it is the program that stops plans,
-//! and the file it writes is compared, too.
+//! `program PATH SEED COUNT [--reserve | --stop | --split]`: runs the planning program on hand-set,
+//! generated and larger clusters, and compares what it prints with the model's text. With `--reserve` the
+//! program takes a reserve in decimal digits as its first argument. With `--stop` it is the program that
+//! stops plans, with `--split` the one that divides them, and the file it writes is compared, too.
 
 use kobdrieft_harness::streams::large;
 use kobdrieft_model::edges::edges;
@@ -39,8 +39,16 @@ struct Words {
     path: String,
     seed: u64,
     count: usize,
-    reserves: bool,
-    stops: bool,
+    mode: Mode,
+}
+
+/// Which program it is.
+#[derive(Clone, Copy, PartialEq)]
+enum Mode {
+    Plan,
+    PlanAt,
+    Stop,
+    Split,
 }
 
 /// A cluster record, and the reserve in digits.
@@ -52,19 +60,26 @@ struct Input {
 fn main() {
     let words: Vec<String> = env::args().skip(1).collect();
     let Some(words) = read_words(&words) else {
-        eprintln!("usage: program PATH SEED COUNT [--reserve | --stop]");
+        eprintln!("usage: program PATH SEED COUNT [--reserve | --stop | --split]");
         exit(2);
     };
-    if words.stops {
-        return stops::compare(&words.path, words.seed, words.count);
+    match words.mode {
+        Mode::Plan => plans(&words, false),
+        Mode::PlanAt => plans(&words, true),
+        Mode::Stop => stops::compare(&words.path, words.seed, words.count),
+        Mode::Split => splits::compare(&words.path, words.seed, words.count),
     }
-    let (path, inputs) = (&words.path, inputs(&words));
+}
+
+/// The planning program, with a reserve each time or none.
+fn plans(words: &Words, reserves: bool) {
+    let (path, inputs) = (&words.path, inputs(words, reserves));
     let (mut version_2, mut launches, mut shutdowns, mut too_high) = (0, 0, 0, 0);
     let mut befores = 0;
     for input in &inputs {
         let Input { reserve, cluster } = input;
         let expected = plan_text(read_number(reserve).expect("digits"), cluster);
-        let printed = run(path, words.reserves.then_some(reserve), cluster);
+        let printed = run(path, reserves.then_some(reserve), cluster);
         if printed != expected {
             println!("reserve {reserve}\ninput {cluster:02x?}\nprogram {printed}model {expected}");
             exit(1);
@@ -82,7 +97,7 @@ fn main() {
          launches and {shutdowns} shutdowns; in {befores} that are planned a VM waits for another",
         inputs.len()
     );
-    if words.reserves {
+    if reserves {
         println!("{too_high} of them have a reserve that is too high");
     }
     if inputs.len() >= ENOUGH && [launches, shutdowns, befores].contains(&0) {
@@ -93,23 +108,24 @@ fn main() {
 
 fn read_words(words: &[String]) -> Option<Words> {
     let (seed, count) = (words.get(1)?.parse().ok()?, words.get(2)?.parse().ok()?);
-    let (reserves, stops) = match words.get(3..)? {
-        [] => (false, false),
-        [flag] if flag == "--reserve" => (true, false),
-        [flag] if flag == "--stop" => (false, true),
+    let mode = match words.get(3..)? {
+        [] => Mode::Plan,
+        [flag] if flag == "--reserve" => Mode::PlanAt,
+        [flag] if flag == "--stop" => Mode::Stop,
+        [flag] if flag == "--split" => Mode::Split,
         _ => return None,
     };
-    Some(Words { path: words[0].clone(), seed, count, reserves, stops })
+    Some(Words { path: words[0].clone(), seed, count, mode })
 }
 
 /// Hand-set clusters and others: those with no reserve, or all, each at a reserve.
-fn inputs(words: &Words) -> Vec<Input> {
+fn inputs(words: &Words, reserves: bool) -> Vec<Input> {
     let mut rng = Rng::new(!words.seed);
-    let hand_set = edges().into_iter().filter(|edge| words.reserves || edge.reserve == 0);
+    let hand_set = edges().into_iter().filter(|edge| reserves || edge.reserve == 0);
     let hand_set =
         hand_set.map(|edge| Input { reserve: edge.reserve.to_string(), cluster: edge.cluster });
     let clusters = clusters(words.seed, words.count).into_iter().enumerate();
-    let others = clusters.map(|(turn, cluster)| match words.reserves {
+    let others = clusters.map(|(turn, cluster)| match reserves {
         true => at_a_reserve(&mut rng, turn, cluster),
         false => Input { reserve: "0".to_string(), cluster },
     });
@@ -176,8 +192,12 @@ fn run(path: &str, reserve: Option<&String>, cluster: &[u8]) -> String {
 
 // ---------------------------------------------------------------- stops
 
+/// Wrong reserves, as words.
+const NO_RESERVES: [&str; 6] = ["", "x", "-1", "+1", "1.5", "10%"];
+
 mod stops {
-    use super::too_long;
+    use super::{too_long, NO_RESERVES};
+    use kobdrieft_harness::runs::{self, Input, Outcome, NOTHING};
     use kobdrieft_harness::streams::large;
     use kobdrieft_model::edges::{edges, stop_edges};
     use kobdrieft_model::gen::{cases, either, Rng};
@@ -185,90 +205,28 @@ mod stops {
     use kobdrieft_model::stops::{some_stop, CUT_OFF};
     use kobdrieft_model::text::{read_marks, read_number, stopped};
     use kobdrieft_model::{cluster_bytes, plan_bytes, puzzles::puzzle, reserves::reserved};
-    use std::collections::BTreeMap;
-    use std::path::{Path, PathBuf};
-    use std::process::{exit, Command};
-    use std::{env, fs, process};
 
     /// A larger room, and a cluster that is too long, come with every so many generated ones.
     const CASES_A_ROOM: usize = 20;
 
-    /// From so many inputs on, each of these lines must have come.
-    const ENOUGH: usize = 1_000;
     const WANTED: [&str; 8] = [
-        "stopped length",
-        "refused 20 step",
-        "refused 21 step",
-        "refused 23 step",
-        "refused 1 step",
-        "refused 17 step",
-        "refused 19 step",
+        "stopped",
+        "refused 20",
+        "refused 21",
+        "refused 23",
+        "refused 1",
+        "refused 17",
+        "refused 19",
         NOTHING,
     ];
 
-    /// What is said of words that are wrong, or a file that cannot be read.
-    const NOTHING: &str = "nothing";
-
-    /// The words behind the two files, as the program gets them, and the files' bytes. A file that is
-    /// `None` is not there.
-    struct Input {
-        cluster: Option<Vec<u8>>,
-        plan: Option<Vec<u8>>,
-        step: String,
-        marks: String,
-        reserve: Option<String>,
-    }
-
-    /// A folder of its own, which goes in the end.
-    struct Folder(PathBuf);
-
-    impl Drop for Folder {
-        fn drop(&mut self) {
-            let _ = fs::remove_dir_all(&self.0);
-        }
-    }
-
     pub fn compare(path: &str, seed: u64, count: usize) {
-        let folder = Folder(env::temp_dir().join(format!("stops-{}", process::id())));
-        fs::create_dir_all(&folder.0).expect("a folder for the files");
-        let path = fs::canonicalize(path).expect("the program is there");
-        let inputs = inputs(seed, count);
-        let mut seen: BTreeMap<String, usize> = BTreeMap::new();
-        for (turn, input) in inputs.iter().enumerate() {
-            let expected = expected(input);
-            let result = run(&path, &folder.0, input, turn % 2 == 0);
-            if result != expected {
-                print(input, &result, &expected);
-                drop(folder);
-                exit(1);
-            }
-            let words: Vec<&str> = expected.0.split_whitespace().collect();
-            let kind = match words[..] {
-                [] => NOTHING.to_string(),
-                ["stopped", "length", _] => WANTED[0].to_string(),
-                _ => format!("refused {} step", words[1]),
-            };
-            *seen.entry(kind).or_default() += 1;
-        }
-        println!(
-            "{} printed and wrote what the model does on {} stops",
-            path.display(),
-            inputs.len()
-        );
-        let counts: Vec<String> = seen.iter().map(|(kind, n)| format!("{kind} {n}")).collect();
-        println!("{}", counts.join(", "));
-        let never: Vec<&&str> = WANTED.iter().filter(|&&line| !seen.contains_key(line)).collect();
-        if inputs.len() >= ENOUGH && !never.is_empty() {
-            println!("the inputs never came to {never:?}");
-            drop(folder);
-            exit(1);
-        }
+        runs::compare(path, &inputs(seed, count), expected, &WANTED);
     }
 
-    /// What is to be printed, and what the file for the record is to have, if it is to be written.
-    fn expected(input: &Input) -> (String, Option<Vec<u8>>) {
+    fn expected(input: &Input) -> Outcome {
         let reserve = input.reserve.as_ref().map_or(Some(0), |digits| read_number(digits));
-        let (step, marks) = (read_number(&input.step), read_marks(&input.marks));
+        let (step, marks) = (read_number(&input.words[0]), read_marks(&input.words[1]));
         match (reserve, &input.cluster, &input.plan, step, marks) {
             (Some(reserve), Some(cluster), Some(plan), Some(step), Some(marks)) => {
                 stopped(reserve, cluster, plan, step, &marks)
@@ -277,52 +235,10 @@ mod stops {
         }
     }
 
-    /// What the program prints, and what it wrote into the file for the record. With `old` that file is
-    /// there before, with other bytes, which must stay unless a record is written.
-    fn run(path: &Path, folder: &Path, input: &Input, old: bool) -> (String, Option<Vec<u8>>) {
-        const OLD: [u8; 9] = *b"as it was";
-        let [cluster, plan, out] = ["cluster", "plan", "out"].map(|name| folder.join(name));
-        for (name, bytes) in [(&cluster, &input.cluster), (&plan, &input.plan)] {
-            match bytes {
-                Some(bytes) => fs::write(name, bytes).expect("a file is written"),
-                None => drop(fs::remove_file(name)),
-            }
-        }
-        match old {
-            true => fs::write(&out, OLD).expect("a file is written"),
-            false => drop(fs::remove_file(&out)),
-        }
-        let mut command = Command::new(path);
-        command.args([&cluster, &plan]).args([&input.step, &input.marks]).arg(&out);
-        let output = command.args(&input.reserve).output().expect("the program starts");
-        if !output.status.success() {
-            return (format!("ended with {}\n", output.status), None);
-        }
-        for (name, bytes) in [(&cluster, &input.cluster), (&plan, &input.plan)] {
-            if fs::read(name).ok() != *bytes {
-                return (format!("it changed {}\n", name.display()), None);
-            }
-        }
-        let written = fs::read(&out).ok();
-        let kept = written.as_deref() == old.then_some(&OLD[..]);
-        (String::from_utf8_lossy(&output.stdout).into_owned(), written.filter(|_| !kept))
-    }
-
-    fn print(
-        input: &Input,
-        result: &(String, Option<Vec<u8>>),
-        expected: &(String, Option<Vec<u8>>),
-    ) {
-        let Input { cluster, plan, step, marks, reserve } = input;
-        println!("cluster {cluster:02x?}\nplan {plan:02x?}");
-        println!("step '{step}' marks '{marks}' reserve {reserve:?}");
-        println!("program {}wrote {:02x?}", result.0, result.1);
-        println!("model {}wants {:02x?}", expected.0, expected.1);
-    }
-
-    /// Marks as digits, if each is one.
-    fn digits(marks: &[u8]) -> String {
-        marks.iter().map(|&mark| char::from(b'0' + mark.min(9))).collect()
+    /// Step and marks as words; the marks as digits, if each is one.
+    fn words(step: u64, marks: &[u8]) -> Vec<String> {
+        let digits = marks.iter().map(|&mark| char::from(b'0' + mark.min(9))).collect();
+        vec![step.to_string(), digits]
     }
 
     /// Hand-set stops, one of every hand-set plan, and generated ones, some with words that are wrong.
@@ -332,19 +248,14 @@ mod stops {
         for (i, edge) in stop_edges().into_iter().enumerate() {
             // The same stop in longer and shorter buffers is one here.
             if edge.ask.buffer == edge.cluster.len() {
-                inputs.push(input(
-                    edge.reserve,
-                    i,
-                    edge.cluster,
-                    edge.plan,
-                    edge.ask.step,
-                    &edge.ask.marks,
-                ));
+                let words = words(edge.ask.step, &edge.ask.marks);
+                inputs.push(Input::of(edge.reserve, i, edge.cluster, edge.plan, words));
             }
         }
         for (i, edge) in edges().into_iter().enumerate().filter(|(i, _)| i % 5 == 0) {
             let ask = some_stop(&mut rng, &edge.cluster, &edge.plan);
-            inputs.push(input(edge.reserve, i, edge.cluster, edge.plan, ask.step, &ask.marks));
+            let words = words(ask.step, &ask.marks);
+            inputs.push(Input::of(edge.reserve, i, edge.cluster, edge.plan, words));
         }
         for (i, case) in cases(seed, count / 2).enumerate() {
             inputs.push(drawn(&mut rng, i, case.cluster, case.plan));
@@ -362,20 +273,6 @@ mod stops {
         inputs
     }
 
-    /// A stop, with its reserve as the last word unless it is 0; then it may be left out.
-    fn input(
-        reserve: u64,
-        turn: usize,
-        cluster: Vec<u8>,
-        plan: Vec<u8>,
-        step: u64,
-        marks: &[u8],
-    ) -> Input {
-        let reserve = (reserve > 0 || turn.is_multiple_of(2)).then(|| reserve.to_string());
-        let (cluster, plan) = (Some(cluster), Some(plan));
-        Input { cluster, plan, step: step.to_string(), marks: digits(marks), reserve }
-    }
-
     /// A drawn stop of a plan, every third at a reserve, and some with something wrong around it.
     fn drawn(rng: &mut Rng, turn: usize, cluster: Vec<u8>, plan: Vec<u8>) -> Input {
         let (reserve, cluster) = match turn % 3 {
@@ -383,16 +280,18 @@ mod stops {
             _ => (0, cluster),
         };
         let ask = some_stop(rng, &cluster, &plan);
-        let mut input = input(reserve, turn, cluster, plan, ask.step, &ask.marks);
+        let words = words(ask.step, &ask.marks);
+        let mut input = Input::of(reserve, turn, cluster, plan, words);
         match rng.below(24) {
-            0 => input.step = beyond_64_bits(rng, ask.step),
-            1 => input.step = format!("00{}", input.step),
+            0 => input.words[0] = beyond_64_bits(rng, ask.step),
+            1 => input.words[0] = format!("00{}", input.words[0]),
             2 => {
-                input.step = rng.pick(&["", "x", "-1", "+1", "1.0", "0x1", " 1", "1 "]).to_string()
+                let word = rng.pick(&["", "x", "-1", "+1", "1.0", "0x1", " 1", "1 "]);
+                input.words[0] = word.to_string();
             }
-            3 => input.marks += rng.pick(&["x", "-", " ", ",", "."]),
-            4 => input.marks = String::new(),
-            5 => input.reserve = Some(rng.pick(&["", "x", "-1", "+1", "1.5", "10%"]).to_string()),
+            3 => input.words[1] += rng.pick(&["x", "-", " ", ",", "."]),
+            4 => input.words[1] = String::new(),
+            5 => input.reserve = Some(rng.pick(&NO_RESERVES).to_string()),
             6 => input.reserve = Some("18446744073709551616".to_string()),
             7 => input.cluster = None,
             8 => input.plan = None,
@@ -406,5 +305,99 @@ mod stops {
     fn beyond_64_bits(rng: &mut Rng, step: u64) -> String {
         let more = u128::from(rng.pick(&CUT_OFF));
         ((more << 64) + u128::from(step)).to_string()
+    }
+}
+
+// ---------------------------------------------------------------- splits
+
+mod splits {
+    use super::{too_long, NO_RESERVES};
+    use kobdrieft_harness::runs::{self, Input, Outcome, NOTHING};
+    use kobdrieft_harness::streams::large;
+    use kobdrieft_model::edges::{edges, split_edges};
+    use kobdrieft_model::gen::{cases, either, Rng};
+    use kobdrieft_model::planner::make_steps;
+    use kobdrieft_model::split::BUFFER;
+    use kobdrieft_model::splits::many_moves;
+    use kobdrieft_model::text::{divided, read_number};
+    use kobdrieft_model::{cluster_bytes, plan_bytes, puzzles::puzzle, reserves::reserved};
+
+    /// A larger room, a plan of many moves, and a cluster and a plan that are too long come with every so
+    /// many generated ones.
+    const CASES_A_ROOM: usize = 20;
+
+    const WANTED: [&str; 9] = [
+        "divided",
+        "refused 14",
+        "refused 23",
+        "refused 1",
+        "refused 13",
+        "refused 17",
+        "refused 19",
+        "refused 33",
+        NOTHING,
+    ];
+
+    pub fn compare(path: &str, seed: u64, count: usize) {
+        runs::compare(path, &inputs(seed, count), expected, &WANTED);
+    }
+
+    fn expected(input: &Input) -> Outcome {
+        let reserve = input.reserve.as_ref().map_or(Some(0), |digits| read_number(digits));
+        match (reserve, &input.cluster, &input.plan) {
+            (Some(reserve), Some(cluster), Some(plan)) => divided(reserve, cluster, plan),
+            _ => (String::new(), None),
+        }
+    }
+
+    /// Hand-set splits, hand-set plans, and generated ones, some with words that are wrong.
+    fn inputs(seed: u64, count: usize) -> Vec<Input> {
+        let mut rng = Rng::new(seed);
+        let mut inputs = Vec::new();
+        // The same split in longer and shorter buffers is one here.
+        for (i, edge) in split_edges().into_iter().filter(|e| e.buffer == BUFFER).enumerate() {
+            inputs.push(Input::of(edge.reserve, i, edge.cluster, edge.plan, vec![]));
+        }
+        for (i, edge) in edges().into_iter().enumerate().filter(|(i, _)| i % 3 == 0) {
+            inputs.push(Input::of(edge.reserve, i, edge.cluster, edge.plan, vec![]));
+        }
+        for (i, case) in cases(seed, count / 2).enumerate() {
+            inputs.push(drawn(&mut rng, i, case.cluster, case.plan));
+            let room = puzzle(&mut rng);
+            let plan = either(&mut rng, &room, &make_steps(&room).0);
+            let cluster = cluster_bytes(&room);
+            inputs.push(drawn(&mut rng, i, cluster.clone(), plan_bytes(&plan)));
+            if i % CASES_A_ROOM == 0 {
+                let room = large(&mut rng);
+                let (plan, _) = room.plans[rng.below(room.plans.len())].clone();
+                inputs.push(drawn(&mut rng, i, room.cluster, plan.clone()));
+                let (room, steps) = many_moves(&mut rng);
+                let many = plan_bytes(&either(&mut rng, &room, &steps));
+                inputs.push(drawn(&mut rng, i + 1, cluster_bytes(&room), many));
+                let [long, other] = [too_long(&mut rng), too_long(&mut rng)];
+                inputs.push(drawn(&mut rng, i, long, plan));
+                inputs.push(drawn(&mut rng, i, cluster, other));
+            }
+        }
+        inputs
+    }
+
+    /// A split of a plan, every third at a reserve, and some with something wrong around it.
+    fn drawn(rng: &mut Rng, turn: usize, cluster: Vec<u8>, plan: Vec<u8>) -> Input {
+        let (reserve, cluster) = match turn % 3 {
+            0 => reserved(rng, &cluster),
+            _ => (0, cluster),
+        };
+        let mut input = Input::of(reserve, turn, cluster, plan, vec![]);
+        match rng.below(24) {
+            0 => input.reserve = Some(rng.pick(&NO_RESERVES).to_string()),
+            1 => input.reserve = Some("18446744073709551616".to_string()),
+            2 => input.reserve = Some(format!("00{reserve}")),
+            3 => input.cluster = None,
+            4 => input.plan = None,
+            5 => input.plan = Some(Vec::new()),
+            _ => {}
+        }
+        input
     }
 }

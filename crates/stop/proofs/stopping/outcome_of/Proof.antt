@@ -1,4 +1,5 @@
-use Rattle.stop.proofs.Laws.Promised.{accepted-cluster, accepted-plan, stops-refused, stops-on}
+use Rattle.rules.proofs.Laws.Verdicts.{accepted-cluster, accepted-plan}
+use Rattle.stop.proofs.Laws.Promised.{stops-refused, stops-on}
 use borrow.Author.Needs.{needs}
 use Rattle.stop.proofs.stopping.outcome_of.Statement.{statement}
 use Rattle.stop.proofs.stopping.outcome_of.Tie as tie

@@ -2,10 +2,10 @@ use Rattle.records.proofs.Laws.Written.{header-written}
 use native.Mathlib.Omega.{arith}
 use lib.ListN.{length-set}
 use borrow.Author.Needs.{needs}
-use Rattle.records.proofs.write.finish_plan.Statement.{statement}
-use Rattle.records.proofs.write.finish_plan.Tie as tie
-use Rattle.records.proofs.write.finish_plan.Reads as reads
-use Rattle.records.proofs.write.finish_plan.Lts as lts
+use Rattle.records.proofs.write.finish_record.Statement.{statement}
+use Rattle.records.proofs.write.finish_record.Tie as tie
+use Rattle.records.proofs.write.finish_record.Reads as reads
+use Rattle.records.proofs.write.finish_record.Lts as lts
 use Rattle.records.proofs.write.put16.Reads as put16-reads
 use Rattle.records.proofs.write.put32.Reads as put32-reads
 
@@ -24,6 +24,6 @@ same-length c = simp length-set (omega arith)
 returns : tie.Need-returns
 returns c = search (needs, header-written)
 
-pub finish-plan-spec : {M : Type 1} → statement M
-finish-plan-spec =
+pub finish-record-spec : {M : Type 1} → statement M
+finish-record-spec =
     tie.close (tie.spec put16-requires put32-requires slice-write-out same-length returns)
