@@ -1,5 +1,7 @@
 // What the planning programs do: read a cluster record on standard input and print what the planner answers at a reserve, a line of counts, then
 // a line for each move. The record of these moves also goes to a file, if an argument names one.
+#![tactic(auto)]
+
 mod show;
 
 use files::Size;

@@ -1,5 +1,7 @@
 // The document's cases that are not proved on paper: a VM sent to where it is, the most nodes and one more, the least buffer and one byte
 // less. Each has a line with what the library says, and of a buffer a line with how many of its bytes stay.
+#![tactic(auto)]
+
 mod show;
 
 // Cluster A.

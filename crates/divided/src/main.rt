@@ -1,6 +1,8 @@
 // Writes the record of a plan with every step divided into single moves, and prints `divided steps N cost C`; or prints `refused N step S` and writes
 // nothing. Its arguments name the files of the cluster record and of the plan, and the file for the record; a fourth one is the reserve, in percent,
 // without which it is 0.
+#![tactic(auto)]
+
 use files::{Number, Size};
 use libc::{STDERR_FILENO, STDOUT_FILENO};
 use split::{Divided, Outcome, SplitFault};

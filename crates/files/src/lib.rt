@@ -1,5 +1,7 @@
 // The files and the arguments of the programs: a file is read to its end or not at all, and written whole or not; what cannot be is said on
 // standard error, and why. And what they print: words and numbers.
+#![tactic(auto)]
+
 mod long;
 mod number;
 
@@ -16,7 +18,7 @@ pub const CLUSTER_ENOUGH: usize = 65536;
 
 pub const PLAN_ENOUGH: usize = 4294967296;
 
-#[derive(Drop)]
+#[derive(Clone, Copy)]
 pub enum Size {
     Bytes(usize),
     Unread,

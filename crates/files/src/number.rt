@@ -3,7 +3,7 @@ ghost use Rattle.std.specs.Prelude.{◌≡◌, true, ◌≤◌};
 ghost use Rattle.records.specs.Base.{all};
 ghost use Rattle.files.specs.Number.{is_digit, values_of, largest, capped, one_more, number_in};
 
-#[derive(Drop)]
+#[derive(Clone, Copy)]
 pub enum Number {
     Is(u64),
     Not,

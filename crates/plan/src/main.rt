@@ -1,5 +1,6 @@
 // Reads a cluster record on standard input and prints what the planner answers at reserve 0: a line of counts, then a line for each move. With
 // an argument, the record of these moves also goes to the file that it names.
+#![tactic(auto)]
 
 fn main() {
     answers::run(b"plan", 0, 1);

@@ -1,5 +1,7 @@
 // The planning program with a reserve: its first argument is the percent of each node to be kept free. It reads a cluster record on standard
 // input, and prints what `plan` prints; with a second argument, the record of the moves also goes to the file that it names.
+#![tactic(auto)]
+
 use files::Number;
 use libc::STDERR_FILENO;
 

@@ -7,7 +7,7 @@ use records::ClusterFault;
 use rules::{TargetFault, packing};
 
 // The record written: its steps, its moves and its cost.
-#[derive(Drop)]
+#[derive(Clone, Copy)]
 pub struct Made {
     pub steps: u64,
     pub moves: u64,
@@ -15,7 +15,7 @@ pub struct Made {
 }
 
 // A reserve that is too large, a fault of the cluster record or of its target, or a buffer that is too short.
-#[derive(Drop)]
+#[derive(Clone, Copy)]
 pub enum BuildFault {
     Reserve,
     Cluster(ClusterFault),
@@ -23,7 +23,7 @@ pub enum BuildFault {
     Buffer,
 }
 
-#[derive(Drop)]
+#[derive(Clone, Copy)]
 pub enum Answer {
     Plan(Made),
     Blocked(Made),

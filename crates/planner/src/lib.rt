@@ -1,4 +1,6 @@
 // The planner: a plan that brings every VM to its target, or how far it gets.
+#![tactic(auto)]
+
 mod answer;
 mod direct;
 mod join;

@@ -104,7 +104,7 @@ fn moved(places: Placement, dests: &Destinations, vms: usize) -> Placement
 }
 
 // What was written: where it ends, how many steps and moves, and whether every VM is then on its target.
-#[derive(Drop)]
+#[derive(Clone, Copy)]
 pub struct Trail {
     pub end: usize,
     pub steps: usize,

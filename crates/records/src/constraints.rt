@@ -8,7 +8,7 @@ use crate::bytes::{byte, count8, count16};
 use crate::groups::groups;
 use crate::lists::{Listed, node_list, vm_list};
 
-#[derive(Drop)]
+#[derive(Clone, Copy)]
 pub enum Kind {
     Ban,
     Fence,

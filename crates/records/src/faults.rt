@@ -3,7 +3,7 @@ ghost use Rattle.std.specs.Prelude.{◌≡◌, ◌<◌};
 ghost use Rattle.records.specs.Room.{cluster_number};
 ghost use Rattle.records.specs.Plan.{plan_number};
 
-#[derive(Drop)]
+#[derive(Clone, Copy)]
 pub enum ClusterFault {
     TooShort,
     Version,
@@ -14,13 +14,13 @@ pub enum ClusterFault {
     Constraint,
 }
 
-#[derive(Drop)]
+#[derive(Clone, Copy)]
 pub enum ClusterCheck {
     Whole,
     Damaged(ClusterFault),
 }
 
-#[derive(Drop)]
+#[derive(Clone, Copy)]
 pub enum PlanFault {
     TooShort,
     Version,
@@ -28,7 +28,7 @@ pub enum PlanFault {
     Shape,
 }
 
-#[derive(Drop)]
+#[derive(Clone, Copy)]
 pub enum PlanCheck {
     Whole,
     Damaged(PlanFault),

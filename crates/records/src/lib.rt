@@ -1,5 +1,7 @@
 // The cluster record and the plan record: whether they are whole, what they say, and writing a plan. Records are read in place and
 // never copied; widths and offsets are known here, but for a step's count of two bytes and the first step's place, 7.
+#![tactic(auto)]
+
 mod bytes;
 mod cluster;
 mod constraints;

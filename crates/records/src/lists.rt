@@ -8,7 +8,7 @@ ghost use Rattle.records.specs.Inner.{listed};
 use crate::bytes::{count8, count16};
 
 // What reading a list finds: where it ends, or that it is damaged.
-#[derive(Drop)]
+#[derive(Clone, Copy)]
 pub enum Listed {
     Ends(usize),
     Bad,

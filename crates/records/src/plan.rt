@@ -10,7 +10,7 @@ use crate::faults::{PlanCheck, PlanFault};
 use crate::header::version_known;
 
 // The source that a move names. Version 1 names none.
-#[derive(Drop)]
+#[derive(Clone, Copy)]
 pub enum Source {
     Unnamed,
     Named(u8),

@@ -4,19 +4,19 @@ ghost use Rattle.rules.specs.Verdict.{target_number, step_number, fault_number, 
 
 use records::{ClusterFault, PlanFault};
 
-#[derive(Drop)]
+#[derive(Clone, Copy)]
 pub enum TargetFault {
     Overfull,
     Broken,
 }
 
-#[derive(Drop)]
+#[derive(Clone, Copy)]
 pub enum TargetCheck {
     Good,
     Bad(TargetFault),
 }
 
-#[derive(Drop)]
+#[derive(Clone, Copy)]
 pub enum StepFault {
     Misnamed,
     Elsewhere,
@@ -27,14 +27,14 @@ pub enum StepFault {
 }
 
 // Clear: none of the faults, 27 included.
-#[derive(Drop)]
+#[derive(Clone, Copy)]
 pub enum StepCheck {
     Clear,
     Faulty(StepFault),
 }
 
 // A reserve that is too large, or a fault of the cluster record, its target, the plan record, one of its steps (with its number), or its end.
-#[derive(Drop)]
+#[derive(Clone, Copy)]
 pub enum Fault {
     Reserve,
     Cluster(ClusterFault),
@@ -44,7 +44,7 @@ pub enum Fault {
     OffTarget,
 }
 
-#[derive(Drop)]
+#[derive(Clone, Copy)]
 pub enum Verdict {
     Accepted(u64),
     Refused(Fault),

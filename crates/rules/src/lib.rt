@@ -1,4 +1,6 @@
 // The rules of a migration: what may happen in a step, and the verdict on a plan.
+#![tactic(auto)]
+
 mod allow;
 mod arrays;
 mod bound;

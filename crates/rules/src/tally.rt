@@ -6,13 +6,13 @@ ghost use Rattle.rules.specs.Moments.{within_memory, within_cpu, within, bears};
 ghost use Rattle.rules.specs.Inner.{NeedOf};
 
 // What a VM needs.
-#[derive(Drop)]
+#[derive(Clone, Copy)]
 pub struct Need {
     pub memory: u64,
     pub cpu: u64,
 }
 
-#[derive(Drop)]
+#[derive(Clone, Copy)]
 pub struct Tally {
     pub memory: u64,
     pub cpu: u64,

@@ -1,4 +1,6 @@
 // Dividing every step of a plan into single moves, for sites that run one move at a time.
+#![tactic(auto)]
+
 mod outcome;
 mod singles;
 mod splitting;

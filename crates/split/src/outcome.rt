@@ -9,21 +9,21 @@ use rules::{Fault, packing};
 const STEPS: u64 = 17592186044416;
 
 // The record written: its steps, each of one move, and its cost.
-#[derive(Drop)]
+#[derive(Clone, Copy)]
 pub struct Divided {
     pub steps: u64,
     pub cost: u64,
 }
 
 // What the checker refuses, a short buffer, or more than 512 steps.
-#[derive(Drop)]
+#[derive(Clone, Copy)]
 pub enum SplitFault {
     Check(Fault),
     Buffer,
     TooMany,
 }
 
-#[derive(Drop)]
+#[derive(Clone, Copy)]
 pub enum Outcome {
     Done(Divided),
     Refused(SplitFault),

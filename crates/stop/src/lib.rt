@@ -1,12 +1,14 @@
 // Stopping a plan in the middle: the cluster record with the VMs where they then are, to plan from again.
+#![tactic(auto)]
+
 mod outcome;
 mod places;
 mod record;
 mod stopping;
 
-// What a stop comes to.
 ghost use Rattle.stop.specs.Promises.{Stopped};
 
+// What a stop comes to.
 pub use outcome::{Outcome, StopFault, stop_number, stop_step};
 pub use stopping::outcome_of;
 

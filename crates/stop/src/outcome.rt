@@ -6,7 +6,7 @@ ghost use Rattle.stop.specs.Inner.{Packs};
 use rules::{Fault, packing};
 
 // What the checker refuses, a step that is not there or has not as many moves as there are marks, a mark other than 0 and 1, or a short buffer.
-#[derive(Drop)]
+#[derive(Clone, Copy)]
 pub enum StopFault {
     Check(Fault),
     NoStep,
@@ -15,7 +15,7 @@ pub enum StopFault {
 }
 
 // The length of the record written, or a refusal.
-#[derive(Drop)]
+#[derive(Clone, Copy)]
 pub enum Outcome {
     Done(usize),
     Refused(StopFault),

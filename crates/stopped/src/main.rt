@@ -1,6 +1,8 @@
 // Writes where the VMs are when a plan is stopped in the middle, as a cluster record to plan from again, and prints `stopped length N`; or
 // prints `refused N step S` and writes nothing. Its arguments name the files of the cluster record and of the plan, the step, the marks of the
 // step's moves, a digit each (1 ended, 0 stayed), and the file for the record; a sixth one is the reserve, in percent, without which it is 0.
+#![tactic(auto)]
+
 use files::{Number, Size};
 use libc::{STDERR_FILENO, STDOUT_FILENO};
 use stop::{Outcome, StopFault};

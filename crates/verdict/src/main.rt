@@ -1,5 +1,7 @@
 // Prints the verdict on a plan for a cluster: `accepted cost N` or `refused N step S`. Its arguments name the files of the two records; a third
 // one is the reserve, in percent, without which it is 0.
+#![tactic(auto)]
+
 use files::{Number, Size};
 use libc::{STDERR_FILENO, STDOUT_FILENO};
 use rules::{Fault, Verdict};

@@ -1,17 +1,17 @@
 -- Laws on one constraint: reading its lists one behind the other tells whether it is well formed.
 use Prim.Native.Nat.{ℕ, zero, suc, ◌+◌, ◌-◌, ◌≤◌, ◌<◌}
 use mathlib.Core.Bool.{Bool, true, false, not, ◌&&◌, and-false, and-true}
-use mathlib.Core.List.{List, [], ◌∷◌}
+use mathlib.Core.List.{List, []}
 use mathlib.Core.Logic.{◌⊎◌, inl, inr, ⊎_elim, by_cases}
 use mathlib.Core.Path.{◌≡◌, refl, sym, ap, ◌∙◌}
 use native.Mathlib.Decide.{dec_lt, ℕ_discrete}
 use native.Mathlib.Omega.{arith}
-use lib.ListN.{length, get_or, take, drop}
-use lib.Dec.{ltb, leb, eqb}
+use lib.ListN.{length, take, drop}
+use lib.Dec.{leb, eqb}
 use borrow.Author.Tests.{eq-eqb, ne_eqb, lt-ltb, le-ltb, le-leb, lt-leb, leb-true, leb-false, eqb-true}
 use Rattle.records.specs.Base.{pick, all}
 use Rattle.records.specs.Bytes.{byte_at, be16}
-use Rattle.records.specs.Room.{kind_of, vms_of, nodes_of, groups_of, first_of, second_of, list_ok, apart, vms_at, vms_end, nodes_at, nodes_end, groups_from, groups_end, kind_at, others_at, first_at, second_at, pair_end, constraint_of, lists_end, constraint_ok, filled, well_formed}
+use Rattle.records.specs.Room.{kind_of, vms_of, nodes_of, groups_of, first_of, second_of, list_ok, apart, vms_at, vms_end, nodes_at, nodes_end, groups_from, groups_end, kind_at, others_at, pair_end, constraint_of, lists_end, constraint_ok, filled, well_formed}
 use Rattle.records.specs.Inner.{unmarked, listed, groups_read, nodes_ok, groups_ok, others_ok, pair_ok}
 use Rattle.records.specs.declared.constraints.Kind.{Kind}
 use Rattle.records.specs.declared.constraints.Kind.TheVariants.{Ban, Fence, Spread, Latency, Before}

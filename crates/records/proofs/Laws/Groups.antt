@@ -1,7 +1,7 @@
 -- Laws on the groups of a latency constraint: marking the nodes passed finds exactly the node that stands in two groups.
 use Prim.Native.Nat.{ℕ, zero, suc, ◌+◌, ◌-◌, ◌≤◌, ◌<◌}
 use mathlib.Core.Bool.{Bool, true, false, not, ◌&&◌, ◌||◌, and-false, or-true}
-use mathlib.Core.List.{List, [], ◌∷◌, ◌++◌}
+use mathlib.Core.List.{List, [], ◌∷◌}
 use mathlib.Core.Logic.{by_cases}
 use mathlib.Core.Path.{◌≡◌, refl, sym, ap, ◌∙◌}
 use native.Mathlib.Decide.{dec_lt, ℕ_discrete}
@@ -9,13 +9,13 @@ use native.Mathlib.Numerals.{add-one}
 use native.Mathlib.Omega.{arith}
 use lib.ListN.{length, get_or, set, take, drop, drop_of_length-le, length-set, length-replicate, get_or-replicate, get_or-eq_default}
 use lib.Seq.{get_or-set_same, get_or-set_other}
-use lib.Dec.{ltb, leb, eqb}
+use lib.Dec.{leb, eqb}
 use borrow.Author.Tests.{eq-eqb, ne_eqb, le-leb, lt-leb, leb-true, leb-false}
 use Rattle.records.specs.Base.{pick, all}
 use Rattle.records.specs.Bytes.{byte_at}
 use Rattle.records.specs.Room.{list_ok, nodes_at, nodes_end, groups_from, groups_end, has, disjoint, apart}
 use Rattle.records.specs.Inner.{Below, unmarked, listed, unseen_in, marked_in, group_at, Grouped, groups_read}
-use Rattle.records.proofs.Laws.Bools.{and_left, and_right, all_same, all-and, all_true}
+use Rattle.records.proofs.Laws.Bools.{and_left, all_same, all-and, all_true}
 use Rattle.records.specs.declared.lists.Listed.{Listed}
 use Rattle.records.specs.declared.lists.Listed.TheVariants.{Ends, Bad}
 use Rattle.records.proofs.Laws.Lists.{at_i, listed-pick, found, found-list, list-below}

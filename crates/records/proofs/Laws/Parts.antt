@@ -1,17 +1,17 @@
 -- Laws on the constraints as parts of the record, one behind the other.
 use Prim.Native.Nat.{ℕ, zero, suc, ◌+◌, ◌-◌, ◌≤◌, ◌<◌, ◌^◌}
 use mathlib.Core.Bool.{Bool, true, false, ◌&&◌}
-use mathlib.Core.List.{List, [], ◌∷◌}
-use mathlib.Core.Path.{◌≡◌, refl, sym, ap, ◌∙◌}
+use mathlib.Core.List.{List}
+use mathlib.Core.Path.{◌≡◌, sym, ap, ◌∙◌}
 use native.Mathlib.Omega.{arith}
-use lib.ListN.{length, get_or, take, drop, length-take, length-drop}
+use lib.ListN.{length, take, drop, length-drop}
 use lib.Seq.{length-take-le}
 use mir.Syntax.{w64}
 use mir.Val.{Fits}
-use lib.Dec.{ltb, leb, eqb}
-use borrow.Author.Tests.{eq-eqb, ne_eqb}
-use Rattle.records.specs.Base.{pick, all}
-use Rattle.records.specs.Bytes.{byte_at, be16}
+use lib.Dec.{eqb}
+use borrow.Author.Tests.{ne_eqb}
+use Rattle.records.specs.Base.{all}
+use Rattle.records.specs.Bytes.{be16}
 use Rattle.records.specs.Room.{part_end, part_at, parts_from, parts_end, well_formed}
 
 pub parts-on : (s : List ℕ) (at n : ℕ) → at ≤ parts_end s at n

@@ -1,7 +1,7 @@
 -- Laws on rows of one width, and on the header and the VM rows of a cluster record.
 use Prim.Native.Nat.{ℕ, zero, suc, ◌+◌, ◌-◌, ◌*◌, ◌≤◌, ◌<◌}
 use mathlib.Core.Bool.{Bool, true, false, not, ◌&&◌, ◌||◌, or-true, or-false}
-use mathlib.Core.List.{List, [], ◌∷◌}
+use mathlib.Core.List.{List}
 use mathlib.Core.Logic.{◌⊎◌, inl, inr, ⊎_elim, by_cases}
 use mathlib.Core.Path.{◌≡◌, refl, sym, ap, ◌∙◌}
 use native.Mathlib.Decide.{dec_lt}
@@ -9,8 +9,8 @@ use native.Mathlib.Omega.{arith}
 use lib.ListN.{length, get_or}
 use lib.Dec.{ltb, leb, eqb}
 use borrow.Author.Tests.{lt-ltb, le-ltb, le-leb, lt-leb, eq-eqb, ne_eqb, ltb-true, eqb-true}
-use Rattle.records.specs.Base.{pick, all}
-use Rattle.records.specs.Bytes.{byte_at, be16, be24, be32, version_of, known_version}
+use Rattle.records.specs.Base.{all}
+use Rattle.records.specs.Bytes.{byte_at, be24, be32, version_of, known_version}
 use Rattle.records.specs.Room.{nowhere, on_node, rows, node_count, vm_count, constraint_count, knows_nowhere, counts_ok, vm_row, place_ok, vm_ok}
 
 -- ---- rows

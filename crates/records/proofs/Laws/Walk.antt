@@ -1,14 +1,14 @@
 -- A walk over the constraints of an undamaged record, for the crates above: where it stands, and what its constraints are.
 use Prim.Native.Nat.{ℕ, zero, suc, ◌+◌, ◌-◌, ◌≤◌, ◌<◌}
-use mathlib.Core.Bool.{Bool, true, false, not, ◌&&◌}
+use mathlib.Core.Bool.{Bool, true, false, ◌&&◌}
 use mathlib.Core.List.{List, [], ◌∷◌, map}
-use mathlib.Core.Path.{◌≡◌, refl, sym, ap, ◌∙◌}
+use mathlib.Core.Path.{◌≡◌, refl, ap, ◌∙◌}
 use native.Mathlib.Omega.{arith}
 use lib.ListN.{length, get_or}
-use lib.Dec.{ltb, leb, eqb}
+use lib.Dec.{ltb, leb}
 use borrow.Author.Tests.{eq-eqb, ltb-true}
 use Rattle.records.specs.Base.{all}
-use Rattle.records.specs.Room.{Constraint, ban, fence, spread, latency, before, kind_of, vms_of, nodes_of, groups_of, first_of, second_of, node_count, vm_count, constraint_count, constraints_start, part_end, part_at, parts_from, parts_end, parts_of, room_of, constraint_of, above, rises, list_ok, apart, constraint_ok, filled, well_formed, cluster_check}
+use Rattle.records.specs.Room.{Constraint, ban, fence, spread, latency, before, kind_of, vms_of, nodes_of, groups_of, first_of, second_of, node_count, vm_count, constraint_count, constraints_start, part_end, part_at, parts_from, parts_of, room_of, constraint_of, above, rises, list_ok, apart, constraint_ok, filled, well_formed, cluster_check}
 use Rattle.records.specs.Inner.{Parts}
 use Rattle.records.specs.declared.constraints.Kind.TheVariants.{Before}
 use Rattle.records.specs.declared.faults.ClusterCheck.TheVariants.{Whole}

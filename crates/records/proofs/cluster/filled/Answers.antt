@@ -1,0 +1,4 @@
+use Rattle.records.proofs.cluster.filled.Goals as goal
+
+pub returns : goal.returns
+returns c = cc
