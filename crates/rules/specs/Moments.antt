@@ -2,7 +2,7 @@
 use Rattle.std.specs.Prelude.{ℕ, zero, suc, ◌+◌, Bool, true, false, ◌&&◌, ◌||◌, List, [], ◌∷◌, map, length, get_or, set, leb, eqb}
 use Rattle.records.specs.Base.{pick, all}
 use Rattle.records.specs.Room.{Node, Vm, Room, node_of, vm_of, on_node}
-use Rattle.records.specs.Plan.{Move, Step}
+use Rattle.records.specs.Plan.{Step}
 use Rattle.rules.specs.declared.tally.Tally.{Tally}
 
 -- a placement: the place of each VM, a node or `nowhere`, by VM number

@@ -3,16 +3,14 @@
 use Rattle.std.specs.Prelude.{ℕ, zero, suc, Bool, true, false, not, ◌&&◌, ◌||◌, List, [], ◌∷◌, length, ltb, leb, eqb}
 use Rattle.records.specs.Base.{pick, all}
 use Rattle.records.specs.Room.{Constraint, ban, fence, spread, latency, before, has, vms_of, Room, node_of, vm_of, nowhere, on_node}
-use Rattle.records.specs.Plan.{Move, Step}
+use Rattle.records.specs.Plan.{Step}
 use Rattle.records.specs.declared.plan.Source.{Source}
 use Rattle.records.specs.declared.plan.Source.TheVariants.{Unnamed, Named}
 use Rattle.rules.specs.Moments.{Placement, place_of, target_of, at_target, within, bears_at, tally_at, first_moment, at_rest, all_running}
 use Rattle.rules.specs.Orders.{some, meets_mate}
-use Rattle.rules.specs.declared.faults.TargetFault.{TargetFault}
 use Rattle.rules.specs.declared.faults.TargetFault.TheVariants.{Overfull, Broken}
 use Rattle.rules.specs.declared.faults.TargetCheck.{TargetCheck}
 use Rattle.rules.specs.declared.faults.TargetCheck.TheVariants.{Good, Bad}
-use Rattle.rules.specs.declared.faults.StepFault.{StepFault}
 use Rattle.rules.specs.declared.faults.StepFault.TheVariants.{Misnamed, Elsewhere, Forbidden, Misfit, Mate, Early}
 use Rattle.rules.specs.declared.faults.StepCheck.{StepCheck}
 use Rattle.rules.specs.declared.faults.StepCheck.TheVariants.{Clear, Faulty}

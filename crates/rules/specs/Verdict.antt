@@ -1,5 +1,5 @@
 -- The verdict on a plan: the whole checking order, the numbers of the refusals, and the packing (01, "Numbers of the refusals"; 02, Jobs 5, 7 and 13).
-use Rattle.std.specs.Prelude.{ℕ, zero, suc, ◌+◌, ◌*◌, ◌^◌, Bool, true, false, not, ◌&&◌, List, [], ◌∷◌, length, ltb, eqb}
+use Rattle.std.specs.Prelude.{ℕ, suc, ◌+◌, ◌*◌, ◌^◌, Bool, List, [], ◌∷◌, length, ltb}
 use Rattle.records.specs.Base.{pick, all}
 use Rattle.records.specs.Room.{Room, most_reserve, room_at, cluster_check, cluster_number}
 use Rattle.records.specs.Plan.{Step, steps_of, plan_check, plan_number}

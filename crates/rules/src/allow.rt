@@ -76,19 +76,18 @@ fn apply(p: &[u8], table: &mut AllowTable)
     }
 }
 
-// The whole table.
-pub fn allow_table(cluster: &[u8]) -> AllowTable
+// The whole table, whatever was in it.
+pub fn allow_table(cluster: &[u8], table: &mut AllowTable)
     requires { cluster_check cluster.now ≡ ClusterCheck.Whole }
-    ensures { result ≡ allow_table (room_of cluster.now) }
+    ensures { table.new ≡ allow_table (room_of cluster.now) }
 {
-    let mut table = [1u8; ALLOWED];
+    *table = [1u8; ALLOWED];
     let mut at = records::first_constraint(cluster);
     let mut left = records::constraint_count(cluster);
     while 0 < left {
         let p = records::part(cluster, at);
-        apply(p, &mut table);
+        apply(p, table);
         at += p.len();
         left -= 1;
     }
-    table
 }

@@ -9,7 +9,7 @@ ghost use Rattle.rules.specs.Verdict.{on_target, on_plan, plan_verdict, verdict_
 ghost use Rattle.rules.specs.Inner.{Allows, step_of};
 
 use crate::allow::allow_table;
-use crate::arrays::AllowTable;
+use crate::arrays::{ALLOWED, AllowTable};
 use crate::cost::plan_cost;
 use crate::faults::{Fault, StepCheck, TargetCheck, Verdict, fault_number, fault_step};
 use crate::packing;
@@ -53,7 +53,8 @@ fn plan_verdict(reserve: u64, cluster: &[u8], plan: &[u8]) -> Verdict
     match found {
         PlanCheck::Damaged(f) => Verdict::Refused(Fault::Plan(f)),
         PlanCheck::Whole => {
-            let table = allow_table(cluster);
+            let mut table = [0u8; ALLOWED];
+            allow_table(cluster, &mut table);
             steps_verdict(reserve, cluster, plan, &table)
         }
     }

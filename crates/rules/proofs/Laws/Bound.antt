@@ -1,5 +1,5 @@
 -- Laws on the walk for 18 and 33: who waits for whom, by the arrays of places and destinations.
-use Prim.Native.Nat.{ℕ, zero, suc, ◌+◌, ◌-◌, ◌≤◌, ◌<◌}
+use Prim.Native.Nat.{ℕ, ◌+◌, ◌-◌, ◌≤◌, ◌<◌}
 use mathlib.Core.Bool.{Bool, true, false, not, ◌&&◌, ◌||◌, false≢true, and-true, and_assoc}
 use mathlib.Core.List.{List, [], ◌∷◌, map}
 use mathlib.Core.Path.{◌≡◌, refl, sym, ap, ap₂, ◌∙◌}
@@ -18,12 +18,11 @@ use Rattle.records.proofs.Laws.Bools.{and_left, and_right, all_head, all_tail}
 use Rattle.records.proofs.Laws.Cluster.{vms-most}
 use Rattle.records.proofs.Laws.Reserve.{room-vms}
 use Rattle.records.proofs.Laws.Walk.{pair-sound}
-use Rattle.rules.specs.Moments.{Placement, place_of, target_of, at_target}
+use Rattle.rules.specs.Moments.{at_target}
 use Rattle.rules.specs.Orders.{some}
 use Rattle.rules.specs.Rules.{named, has_move, respects, in_turn, puts, waits_for}
-use Rattle.rules.specs.Inner.{held, dests_from, no_move, spread_ok, pair_in_turn, turn_ok, bound_check}
+use Rattle.rules.specs.Inner.{held, dests_from, spread_ok, pair_in_turn, turn_ok, bound_check}
 use Rattle.rules.specs.declared.faults.StepFault.TheVariants.{Mate, Early}
-use Rattle.rules.specs.declared.faults.StepCheck.{StepCheck}
 use Rattle.rules.specs.declared.faults.StepCheck.TheVariants.{Clear, Faulty}
 use Rattle.rules.proofs.Laws.Reserve.{waits-same}
 use Rattle.rules.proofs.Laws.Places.{target_at}

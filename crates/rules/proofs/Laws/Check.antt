@@ -1,27 +1,23 @@
 -- Laws on the check of a step: each refusal, 15, 27, 16, 17, 18 and 33, in its turn.
-use Prim.Native.Nat.{ℕ, zero, suc, ◌+◌, ◌-◌, ◌*◌, ◌≤◌, ◌<◌, ◌^◌}
-use mathlib.Core.Bool.{Bool, true, false, not, ◌&&◌}
-use mathlib.Core.List.{List, [], ◌∷◌}
-use mathlib.Core.Logic.{◌⊎◌, inl, inr, ⊎_elim, by_cases}
+use Prim.Native.Nat.{ℕ, suc, ◌+◌, ◌*◌, ◌≤◌, ◌<◌}
+use mathlib.Core.Bool.{Bool, true, false, ◌&&◌}
+use mathlib.Core.List.{List}
 use mathlib.Core.Path.{◌≡◌, refl, sym, ap, ◌∙◌}
-use native.Mathlib.Decide.{dec_lt}
 use native.Mathlib.Numerals.{add-one}
 use native.Mathlib.Omega.{arith}
-use lib.ListN.{length, get_or, drop, drop_of_length-le, get_or-eq_default}
-use lib.Dec.{ltb, leb, eqb}
+use lib.ListN.{length, get_or, drop, drop_of_length-le}
 use Rattle.records.specs.Base.{pick, all}
-use Rattle.records.specs.Room.{Room, room_of, room_at, node_count, vm_count, cluster_check}
-use Rattle.records.specs.Plan.{Move, Step, move_of, move_count, step_at, step_end}
+use Rattle.records.specs.Room.{room_of, room_at, node_count, vm_count, cluster_check}
+use Rattle.records.specs.Plan.{move_of, move_count, step_at, step_end}
 use Rattle.records.specs.declared.faults.ClusterCheck.TheVariants.{Whole}
 use Rattle.records.proofs.Laws.Cluster.{nodes-most, vms-most}
 use Rattle.records.proofs.Laws.Rows.{far-off}
 use Rattle.records.proofs.Laws.Steps.{step-length}
-use Rattle.rules.specs.Moments.{Placement, place_of}
 use Rattle.rules.specs.Rules.{allowed, named, sourced, permitted, fitting, unmet, in_turn, step_check}
 use Rattle.rules.specs.Inner.{held, Placed, Held, dests_from, Ready, Loads, Aimed, Allows, fits_in, spread_ok, turn_ok, bound_check, running_check}
-use Rattle.rules.specs.declared.faults.StepFault.TheVariants.{Misnamed, Elsewhere, Forbidden, Misfit, Mate, Early}
+use Rattle.rules.specs.declared.faults.StepFault.TheVariants.{Misnamed, Elsewhere, Forbidden, Misfit}
 use Rattle.rules.specs.declared.faults.StepCheck.{StepCheck}
-use Rattle.rules.specs.declared.faults.StepCheck.TheVariants.{Clear, Faulty}
+use Rattle.rules.specs.declared.faults.StepCheck.TheVariants.{Faulty}
 use Rattle.rules.specs.declared.tally.Tally.{Tally}
 use Rattle.rules.proofs.Laws.Places.{step-cons}
 use Rattle.rules.proofs.Laws.Reserve.{named-same, permitted-same, unmet-same, turn-same}

@@ -16,7 +16,7 @@ use Rattle.records.specs.Plan.{Move, Step, move_of, move_count, step_at, step_en
 use Rattle.records.specs.Inner.{Steps}
 use Rattle.records.specs.declared.faults.PlanCheck.TheVariants.{Whole}
 use Rattle.records.proofs.Laws.Cluster.{vms-count, vm-memory-most}
-use Rattle.records.proofs.Laws.Steps.{step-length, steps-length, steps-cons, steps_next, step-within, steps-start, steps-most, total-cons}
+use Rattle.records.proofs.Laws.Steps.{step-length, steps-length, steps-cons, steps_next, steps-start, steps-most, total-cons}
 use Rattle.rules.specs.Cost.{memory_of, step_cost, cost_from, cost_of}
 use Rattle.rules.specs.Inner.{moves_cost}
 use Rattle.rules.proofs.Laws.Places.{step-cons}

@@ -1,26 +1,21 @@
 -- Laws on refusal 18: the passes over the spreads, and that they find exactly the mates that meet with every move running.
-use Prim.Native.Nat.{ℕ, zero, suc, ◌+◌, ◌-◌, ◌*◌, ◌≤◌, ◌<◌}
-use mathlib.Core.Bool.{Bool, true, false, not, ◌&&◌, ◌||◌, and-false, or-true, false≢true}
-use mathlib.Core.List.{List, [], ◌∷◌, map}
-use mathlib.Core.Logic.{◌⊎◌, inl, inr, ⊎_elim, by_cases}
+use Prim.Native.Nat.{ℕ, ◌+◌, ◌≤◌, ◌<◌}
+use mathlib.Core.Bool.{Bool, true, false, false≢true}
+use mathlib.Core.List.{List, [], ◌∷◌}
+use mathlib.Core.Logic.{by_cases}
 use mathlib.Core.Path.{◌≡◌, refl, sym, ap, ◌∙◌}
-use native.Mathlib.Decide.{ℕ_discrete, dec_lt}
+use native.Mathlib.Decide.{dec_lt}
 use native.Mathlib.Numerals.{add-one}
 use native.Mathlib.Omega.{arith}
-use lib.ListN.{length, get_or, set, drop, replicate, length-set, length-replicate, get_or-replicate, drop_of_length-le}
-use lib.Seq.{drop-cons, get_or-set_same, get_or-set_other}
-use lib.Dec.{ltb, leb, eqb}
-use borrow.Author.Tests.{lt-ltb, le-ltb, eq-eqb, ne_eqb, eqb-true, eqb-false, ltb-true, not-true, not-false}
+use lib.ListN.{length, get_or, set, drop, replicate, get_or-replicate, drop_of_length-le}
+use lib.Seq.{drop-cons}
+use lib.Dec.{ltb, eqb}
+use borrow.Author.Tests.{lt-ltb, le-ltb, eq-eqb, ne_eqb}
 use Rattle.records.specs.Base.{pick, all}
-use Rattle.records.specs.Room.{Constraint, ban, fence, spread, latency, before, kind_of, vms_of, has, above, rises, list_ok, Room, room_of, vm_count, node_count, constraints_start, constraint_count, part_end, part_at, parts_from, constraint_of, constraint_ok, filled, well_formed, cluster_check}
-use Rattle.records.specs.Inner.{Parts}
+use Rattle.records.specs.Room.{Constraint, ban, fence, spread, latency, before, kind_of, vms_of}
 use Rattle.records.specs.declared.constraints.Kind.{Kind}
 use Rattle.records.specs.declared.constraints.Kind.TheVariants.{Ban, Fence, Spread, Latency, Before}
-use Rattle.records.specs.declared.faults.ClusterCheck.TheVariants.{Whole}
-use Rattle.records.proofs.Laws.Bools.{and_left, and_right, and_both, bool_iff, all_head, all_tail}
-use Rattle.records.proofs.Laws.Parts.{parts-step}
-use Rattle.records.proofs.Laws.Walk.{constraints-are, walk_start, walk-cons}
-use Rattle.rules.proofs.Laws.Walks.{walk-not, walk_more, walk-done, walk-all}
+use Rattle.records.proofs.Laws.Bools.{and_left, and_right}
 use Rattle.rules.specs.Inner.{start_marks, clear_of, go_unmet, list_unmet, spread_ok}
 
 -- ---- the turns of the passes

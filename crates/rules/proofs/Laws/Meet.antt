@@ -1,5 +1,5 @@
 -- The passes over the spreads find exactly the mates that meet with every move running.
-use Prim.Native.Nat.{ℕ, zero, suc, ◌+◌, ◌-◌, ◌*◌, ◌≤◌, ◌<◌}
+use Prim.Native.Nat.{ℕ, zero, suc, ◌+◌, ◌≤◌, ◌<◌}
 use mathlib.Core.Bool.{Bool, true, false, not, ◌&&◌, ◌||◌, and-false, or-true}
 use mathlib.Core.List.{List, [], ◌∷◌, map}
 use mathlib.Core.Logic.{◌⊎◌, inl, inr, ⊎_elim, by_cases}
@@ -8,16 +8,16 @@ use native.Mathlib.Decide.{ℕ_discrete, dec_lt}
 use native.Mathlib.Omega.{arith}
 use lib.ListN.{length, get_or, set, replicate, length-set, length-replicate, get_or-replicate}
 use lib.Seq.{get_or-set_same, get_or-set_other}
-use lib.Dec.{ltb, leb, eqb}
-use borrow.Author.Tests.{lt-ltb, le-ltb, eq-eqb, ne_eqb, eqb-true, eqb-false, ltb-true, not-true, not-false}
+use lib.Dec.{ltb, eqb}
+use borrow.Author.Tests.{lt-ltb, le-ltb, eq-eqb, ne_eqb, eqb-true, eqb-false, ltb-true, not-true}
 use Rattle.records.specs.Base.{pick, all}
-use Rattle.records.specs.Room.{Constraint, ban, fence, spread, latency, before, vms_of, has, above, rises, list_ok, Room, room_of, vm_count, node_count, parts_of, constraint_of, constraint_ok, filled, well_formed, cluster_check}
-use Rattle.records.specs.Plan.{Move, Step, move_of, no_move}
+use Rattle.records.specs.Room.{Constraint, ban, fence, spread, latency, before, has, above, rises, list_ok, room_of, vm_count, node_count, parts_of, constraint_of, constraint_ok, filled, well_formed, cluster_check}
+use Rattle.records.specs.Plan.{Step, move_of, no_move}
 use Rattle.records.specs.declared.faults.ClusterCheck.TheVariants.{Whole}
 use Rattle.records.proofs.Laws.Bools.{and_left, and_right, and_both, bool_iff, all-at, all-and}
 use Rattle.records.proofs.Laws.Cluster.{undamaged, nodes-most, vms-most, vms-count}
 use Rattle.records.proofs.Laws.Rows.{node-on, near_on, far-off}
-use Rattle.rules.specs.Moments.{Placement, place_of, Phase, waiting, running, Cell, cell, Moment, number_of, counts_on, phase_of, first_moment, all_running}
+use Rattle.rules.specs.Moments.{Cell, cell, Moment, number_of, counts_on}
 use Rattle.rules.specs.Orders.{spreads, some, mates, meets_mate}
 use Rattle.rules.specs.Rules.{named, unmet}
 use Rattle.rules.specs.Inner.{held, dests_from, goal_in, busy_from, Ready, start_marks, go_unmet, list_unmet, spread_ok}

@@ -1,19 +1,19 @@
 -- Laws on refusal 15: the pass over the moves of a step, and what a well named step has.
-use Prim.Native.Nat.{ℕ, zero, suc, ◌+◌, ◌-◌, ◌≤◌, ◌<◌}
-use mathlib.Core.Bool.{Bool, true, false, not, ◌&&◌, and-false}
-use mathlib.Core.List.{List, [], ◌∷◌}
-use mathlib.Core.Path.{◌≡◌, refl, sym, ap, ◌∙◌}
+use Prim.Native.Nat.{ℕ, suc, ◌+◌, ◌≤◌, ◌<◌}
+use mathlib.Core.Bool.{Bool, true, false, not, ◌&&◌}
+use mathlib.Core.List.{List}
+use mathlib.Core.Path.{◌≡◌, refl, sym, ◌∙◌}
 use native.Mathlib.Numerals.{add-one}
 use native.Mathlib.Omega.{arith}
-use lib.ListN.{length, get_or, take, drop, drop_of_length-le}
+use lib.ListN.{length, get_or, drop, drop_of_length-le}
 use lib.Seq.{get_or-take}
 use lib.Dec.{ltb, leb, eqb}
 use borrow.Author.Tests.{lt-ltb, le-ltb, le-leb, lt-leb, eq-eqb, ne_eqb}
-use Rattle.records.specs.Room.{Room, vm_of, nowhere, room_of, node_count, vm_count}
-use Rattle.records.specs.Plan.{Move, Step, move_of, move_count, step_at}
+use Rattle.records.specs.Room.{vm_of, nowhere, room_of, node_count, vm_count}
+use Rattle.records.specs.Plan.{move_of, move_count, step_at}
 use Rattle.records.proofs.Laws.Cluster.{vms-count, nodes-count}
 use Rattle.records.proofs.Laws.Steps.{step-length}
-use Rattle.rules.specs.Moments.{Placement, place_of}
+use Rattle.rules.specs.Moments.{place_of}
 use Rattle.rules.specs.Rules.{aims, named}
 use Rattle.rules.specs.Inner.{held}
 use Rattle.rules.proofs.Laws.Places.{step-cons, target_at}

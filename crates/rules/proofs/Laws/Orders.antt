@@ -213,6 +213,7 @@ onward-event (runs o) ends = over o
 onward-event (runs o) (later e) = runs (onward-event o e)
 onward-event (over o) (later e) = over (onward-event o e)
 onward-event (stops o) (later e) = stops (onward-event o e)
+onward-event {ds = ds} {a = a} none x4 = elim x4 [ ]
 
 pub onward-order : {ws cs ds : Moment} → Onward ws cs → Order cs ds → Onward ws ds
 onward-order w done = w
@@ -318,6 +319,7 @@ begin-waits (same {c = cell w p x} o) (later e) = inr (begin-waits o e)
 begin-waits (runs o) (later e) = inr (begin-waits o e)
 begin-waits (over o) (later e) = inr (begin-waits o e)
 begin-waits (stops o) (later e) = inr (begin-waits o e)
+begin-waits {ds = ds} {v = v} {d = d} none x4 = elim x4 [ ]
 
 pub waits-phase : (places : Placement) (step : Step) (k n v d : ℕ) → Waits v d (cells_from places step k n) → phase_of step v ≡ waiting d
 unfolding cells_from

@@ -1,12 +1,12 @@
 -- Wrong readings of the rules, each written beside the right one, and a small case that tells the two apart.
 use Prim.Native.Nat.{ℕ, ◌+◌, ◌-◌, ◌*◌, ◌/◌}
 use mathlib.Core.Bool.{Bool, true, false, not, ◌&&◌, ◌||◌}
-use mathlib.Core.List.{List, [], ◌∷◌, map}
+use mathlib.Core.List.{[], ◌∷◌, map}
 use mathlib.Core.Path.{◌≡◌, refl}
 use lib.ListN.{length}
 use lib.Dec.{eqb}
 use Rattle.records.specs.Base.{pick, all, sum_of}
-use Rattle.records.specs.Room.{Constraint, Room, Vm, Node, fence, spread, before, has, vms_of, node_of, vm_of, usable, usable_node, at_reserve, nowhere, on_node}
+use Rattle.records.specs.Room.{Room, Vm, Node, fence, spread, before, has, vms_of, node_of, vm_of, usable, usable_node, at_reserve, nowhere, on_node}
 use Rattle.records.specs.Plan.{Step}
 use Rattle.records.specs.declared.plan.Source.TheVariants.{Unnamed}
 use Rattle.rules.specs.Moments.{Placement, place_of, current_of, target_of, at_target, after, within_memory, within_cpu, within, is_idle, bears, bears_at, with_vm, empty_tally, staying, waiting, running, ended, Cell, cell, Moment, number_of, counts_on, tally_at, phase_of, cells_from, first_moment, begun, all_running}

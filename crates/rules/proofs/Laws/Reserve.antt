@@ -1,22 +1,18 @@
 -- Laws on the room at a reserve: what a reserve leaves as it is. Only what a node has is changed by it.
-use Prim.Native.Nat.{ℕ, zero, suc, ◌+◌, ◌≤◌, max}
-use mathlib.Core.Bool.{Bool, not}
+use Prim.Native.Nat.{ℕ, suc, ◌+◌}
 use mathlib.Core.List.{List, [], ◌∷◌}
-use mathlib.Core.Path.{◌≡◌, refl, sym, ap, ◌∙◌}
-use lib.ListN.{length}
-use Rattle.records.specs.Base.{pick, all, sum_of}
-use Rattle.records.specs.Room.{Constraint, ban, fence, spread, latency, before, Room, vm_of, at_reserve, room_of, room_at}
+use mathlib.Core.Path.{◌≡◌, refl}
+use Rattle.records.specs.Room.{Constraint, ban, fence, spread, latency, before, Room, vm_of, at_reserve}
 use Rattle.records.specs.Plan.{Move, Step}
 use Rattle.records.proofs.Laws.Bools.{all_same}
 use Rattle.records.proofs.Laws.Reserve.{nodes-kept}
-use Rattle.rules.specs.Moments.{Placement, place_of, current_of, target_of, Cell, number_of, counts_on, Moment, with_vm, tally_at, first_moment, all_running}
-use Rattle.rules.specs.Orders.{some, mates, meets_mate}
+use Rattle.rules.specs.Moments.{Placement, current_of, target_of, number_of, Moment, tally_at, first_moment}
+use Rattle.rules.specs.Orders.{mates, meets_mate}
 use Rattle.rules.specs.Rules.{allowed, aims, named, permitted, unmet, respects, in_turn, waits_for}
 use Rattle.rules.specs.Cost.{memory_of, step_cost, cost_from, cost_of}
 use Rattle.rules.specs.Verdict.{home}
 use Rattle.rules.specs.Inner.{NeedOf}
 use Rattle.rules.specs.declared.tally.Need.{Need}
-use Rattle.rules.specs.declared.tally.Tally.{Tally}
 
 module _ (reserve : ℕ) (room : Room) where
   -- ---- VMs and placements

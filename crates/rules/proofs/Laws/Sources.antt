@@ -17,7 +17,7 @@ use Rattle.records.specs.declared.plan.Source.{Source}
 use Rattle.records.specs.declared.plan.Source.TheVariants.{Unnamed, Named}
 use Rattle.records.proofs.Laws.Bools.{and_left, and_right, and_both, all-at, all_same as all_Alike, all_more}
 use Rattle.records.proofs.Laws.Steps.{step-length}
-use Rattle.rules.specs.Moments.{Placement, place_of, after, bears_at, waiting, tally_at, phase_of, cells_from, first_moment, all_running}
+use Rattle.rules.specs.Moments.{Placement, places_left, place_of, after, bears_at, waiting, tally_at, phase_of, cells_from, first_moment, all_running}
 use Rattle.rules.specs.Orders.{Order, Run, stop, step, some, meets_mate}
 use Rattle.rules.specs.Rules.{allowed, named, is_place, sourced, permitted, fitting, unmet, has_move, respects, in_turn, sound_step}
 use Rattle.rules.specs.Cost.{memory_of, step_cost, cost_from, cost_of}
@@ -239,13 +239,13 @@ module _ (names : Move → Source) where
 
     run-off : (places last : Placement) (steps : List Step) → Run room places (map (with_sources names) steps) last → Run room places steps last
     run-off places last [] stop = stop
-    run-off places last (moves ∷ steps) (step o s r) = step (rw (moment-unread places moves) at o) s (run-off _ last steps r)
+    run-off places last (moves ∷ steps) (step {end = end} o s r) = step (rw (moment-unread places moves) at o) s (run-off (places_left end) last steps r)
 
     run_on : (places last : Placement) (steps : List Step) → Run room places steps last → Run room places (map (with_sources names) steps) last
     run_on places last [] stop = stop
     run_on places last (moves ∷ steps) (step {end = end} o s r) =
         let p : Order (first_moment room places (with_sources names moves)) end = rw (moment-unread places moves) o in
-        step p s (run_on _ last steps r)
+        step p s (run_on (places_left end) last steps r)
 
 pub sources-unread : (room : Room) → SourcesUnread room
 unfolding cost_of

@@ -1,31 +1,31 @@
 -- More reserve is stricter: what is accepted with more kept free is accepted, at the same cost, with less (02, Job 5).
 use Prim.Native.Nat.{ℕ, ◌≤◌}
-use mathlib.Core.Bool.{Bool, true, false, not, ◌&&◌}
+use mathlib.Core.Bool.{Bool, true, false, not}
 use mathlib.Core.List.{List, [], ◌∷◌}
 use mathlib.Core.Logic.{inl, inr, ⊎_elim}
 use mathlib.Core.Path.{◌≡◌, refl, sym, ap, ◌∙◌}
 use native.Mathlib.Omega.{arith}
 use lib.ListN.{length}
-use borrow.Author.Tests.{leb-true, le-leb, not-false}
+use borrow.Author.Tests.{leb-true, le-leb}
 use Rattle.records.specs.Base.{pick, all}
-use Rattle.records.specs.Room.{Node, Vm, Room, node_of, vm_of, usable, usable_node, at_reserve, room_of, room_at, cluster_check}
+use Rattle.records.specs.Room.{Vm, Room, node_of, vm_of, usable_node, at_reserve, room_of, room_at, cluster_check}
 use Rattle.records.specs.Plan.{Step, steps_of}
 use Rattle.records.proofs.Laws.Bools.{and_left, and_right, and_both, all_more}
 use Rattle.records.specs.declared.faults.ClusterCheck.{ClusterCheck}
 use Rattle.records.proofs.Laws.Cluster.{nodes-most, nodes-count}
 use Rattle.records.proofs.Laws.Reserve.{node-usable, usable-less, nodes-kept, record-room}
-use Rattle.rules.specs.Moments.{Placement, current_of, target_of, after, within, within_memory, within_cpu, bears, bears_at, tally_at, first_moment, at_rest, all_running}
+use Rattle.rules.specs.Moments.{Placement, current_of, target_of, after, within, within_memory, bears_at, tally_at, first_moment, at_rest, all_running}
 use Rattle.rules.specs.Rules.{from, keeps, fits_all, target_check, fitting, sound_step}
 use Rattle.rules.specs.Cost.{cost_of}
-use Rattle.rules.specs.Verdict.{home, plan_verdict, verdict_of, packed}
+use Rattle.rules.specs.Verdict.{plan_verdict, verdict_of, packed}
 use Rattle.rules.specs.Returned.{told_cost, SaysGood}
-use Rattle.rules.specs.Promises.{after_all, sound_all, Shaped, StaysWithin, Checked}
+use Rattle.rules.specs.Promises.{sound_all, Shaped, StaysWithin, Checked}
 use Rattle.rules.specs.declared.faults.TargetFault.{TargetFault}
 use Rattle.rules.specs.declared.faults.TargetCheck.{TargetCheck}
 use Rattle.rules.specs.declared.faults.Verdict.{Verdict}
 use Rattle.rules.specs.declared.tally.Tally.{Tally}
 use Rattle.rules.proofs.Laws.Bears.{bears-by, bears-memory, bears-cpu, at_more}
-use Rattle.rules.proofs.Laws.Reserve.{vm-same, current-same, target-same, home_same, moment-same, tally-same, named-same, permitted-same, unmet-same, turn-same, cost-same}
+use Rattle.rules.proofs.Laws.Reserve.{current-same, home_same, moment-same, tally-same, named-same, permitted-same, unmet-same, turn-same, cost-same}
 use Rattle.rules.proofs.Laws.Orders.{never}
 use Rattle.rules.proofs.Laws.Returned.{says-accepted}
 use Rattle.rules.proofs.Laws.Runs.{stays_within}

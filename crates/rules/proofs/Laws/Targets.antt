@@ -21,7 +21,7 @@ use Rattle.records.specs.declared.constraints.Kind.TheVariants.{Ban, Fence, Spre
 use Rattle.records.specs.declared.faults.ClusterCheck.TheVariants.{Whole}
 use Rattle.records.proofs.Laws.Bools.{and_left, and_right}
 use Rattle.records.proofs.Laws.Lists.{list-below}
-use Rattle.records.proofs.Laws.Cluster.{nodes-most, vms-count, nodes-count}
+use Rattle.records.proofs.Laws.Cluster.{nodes-most, vms-count}
 use Rattle.records.proofs.Laws.Constraints.{groups-last, groups-read, groups-length, groups-next, group-within}
 use Rattle.rules.specs.Moments.{place_of, target_of, within, empty_tally, tally_at, first_moment}
 use Rattle.rules.specs.Orders.{some}

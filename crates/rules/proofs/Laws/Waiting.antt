@@ -1,6 +1,6 @@
 -- Laws on VMs that wait for others, over orders and runs: while a VM moves, whoever it waits for is at rest on its target.
 use Prim.Native.Nat.{ℕ, zero, suc, ◌+◌, ◌≤◌, ◌<◌}
-use mathlib.Core.Bool.{Bool, true, false, not, ◌&&◌, ◌||◌, false≢true, or-true, and-false}
+use mathlib.Core.Bool.{Bool, true, false, ◌&&◌, ◌||◌, false≢true, or-true}
 use mathlib.Core.List.{List, [], ◌∷◌}
 use mathlib.Core.Logic.{by_cases}
 use mathlib.Core.Path.{◌≡◌, refl, sym, ap, ◌∙◌}
@@ -9,17 +9,16 @@ use native.Mathlib.Omega.{arith}
 use lib.ListN.{length}
 use lib.Dec.{eqb}
 use borrow.Author.Tests.{eqb-true, eq-eqb, ne_eqb}
-use Rattle.records.specs.Base.{all}
 use Rattle.records.specs.Room.{Room}
 use Rattle.records.specs.Plan.{Step}
 use Rattle.records.proofs.Laws.Bools.{and_left, and_right}
-use Rattle.rules.specs.Moments.{Placement, place_of, target_of, at_target, after, Phase, staying, waiting, running, ended, cell, Moment, number_of, phase_of, cells_from, first_moment, at_rest, settled, places_left}
-use Rattle.rules.specs.Orders.{Act, begin, finish, Event, begins, ends, later, Order, done, next, Run, stop, step, some, is_running, runs_at, stays_on, rests_on, EachBegin, EachMoment, EachBeginOfRun, EachStepOfRun, EachMomentOfRun}
+use Rattle.rules.specs.Moments.{Placement, place_of, target_of, after, staying, waiting, running, cell, Moment, number_of, phase_of, cells_from, first_moment, at_rest}
+use Rattle.rules.specs.Orders.{Act, begin, finish, Event, begins, ends, later, Order, done, next, Run, stop, step, some, is_running, runs_at, stays_on, rests_on, EachBegin, EachMoment, EachBeginOfRun, EachMomentOfRun}
 use Rattle.rules.specs.Rules.{has_move, in_turn, waits_for, sound_step}
 use Rattle.rules.specs.Promises.{sound_all, InTurn, WaitsItsTurn}
 use Rattle.rules.proofs.Laws.Orders.{after-length, order-leaves}
 use Rattle.rules.proofs.Laws.Sound.{sound-named, sound-turn}
-use Rattle.rules.proofs.Laws.Turn.{still-phase, Waited, waited}
+use Rattle.rules.proofs.Laws.Turn.{still-phase, waited}
 
 -- ---- a VM at rest on a place
 
