@@ -23,7 +23,8 @@ fn planned(reserve: u64, cluster: &[u8], out: &mut [u8]) -> Answer
     requires { (cluster_check cluster.now ≡ ClusterCheck.Whole) × (reserve ≤ most_reserve) × (least_buffer ≤ length out.old) }
     ensures { Answers reserve cluster.now (outcome (room_at reserve cluster.now) (steps_for (room_at reserve cluster.now))) out.old out.new result }
 {
-    let allow = rules::allow_table(cluster);
+    let mut allow = [0u8; rules::ALLOWED];
+    rules::allow_table(cluster, &mut allow);
     let mut pairs = [0u8; PAIRS];
     pair_table(cluster, &mut pairs);
     let trail = write_steps(reserve, cluster, &allow, &pairs, out);

@@ -28,7 +28,7 @@ pub use verdict::verdict_on;
 pub use cost::plan_cost;
 
 // The arrays that a call keeps.
-pub use arrays::{AllowTable, Destinations, NO_MOVE, NODES, Placement, Sums, VMS};
+pub use arrays::{ALLOWED, AllowTable, Destinations, NO_MOVE, NODES, Placement, Sums, VMS};
 
 // A node's tally.
 pub use step::loads;

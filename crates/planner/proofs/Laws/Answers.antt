@@ -11,7 +11,7 @@ use borrow.Author.Tests.{lt-ltb, le-ltb}
 use Rattle.records.specs.Base.{pick}
 use Rattle.records.specs.Bytes.{bytes16, bytes32}
 use Rattle.records.specs.Room.{most_reserve, room_of, room_at, cluster_check}
-use Rattle.records.specs.Plan.{steps_of, shaped, steps_bytes, header_bytes, record_bytes, written_version, plan_bytes, written, plan_check}
+use Rattle.records.specs.Plan.{steps_of, steps_bytes, header_bytes, record_bytes, written_version, plan_bytes, written, plan_check}
 use Rattle.records.specs.declared.faults.ClusterFault.{ClusterFault}
 use Rattle.records.specs.declared.faults.ClusterCheck.{ClusterCheck}
 use Rattle.records.specs.declared.faults.PlanCheck.{PlanCheck}

@@ -2,7 +2,7 @@
 use Prim.Native.Nat.{ℕ, zero, suc, ◌+◌, ◌≤◌, ◌<◌}
 use mathlib.Core.Bool.{Bool, true, false, not, ◌&&◌, ◌||◌, false≢true, or-true}
 use mathlib.Core.List.{List, [], ◌∷◌}
-use mathlib.Core.Logic.{inl, inr, ⊎_elim, by_cases}
+use mathlib.Core.Logic.{⊎_elim, by_cases}
 use mathlib.Core.Path.{◌≡◌, refl, sym, ap, ◌∙◌}
 use native.Mathlib.Decide.{ℕ_discrete}
 use native.Mathlib.Omega.{arith}
@@ -16,19 +16,18 @@ use Rattle.records.proofs.Laws.Bools.{and_left, and_right, and_both, all_head, a
 use Rattle.records.proofs.Laws.Cluster.{vm-target-place}
 use Rattle.records.proofs.Laws.Reserve.{room-nodes, room-vms}
 use Rattle.records.proofs.Laws.Rows.{place-either}
-use Rattle.rules.specs.Moments.{Placement, place_of, target_of, at_target, within, within_memory, within_cpu, is_idle, bears, bears_at, with_vm, staying, waiting, running, cell, Moment, number_of, counts_on, tally_at, phase_of, cells_from, first_moment, at_rest, begun, all_running}
+use Rattle.rules.specs.Moments.{Placement, place_of, target_of, at_target, within, within_memory, within_cpu, is_idle, bears, bears_at, with_vm, staying, waiting, cell, number_of, counts_on, tally_at, phase_of, cells_from, first_moment, at_rest, begun, all_running}
 use Rattle.rules.specs.Orders.{some, spreads, mates, meets_mate}
-use Rattle.rules.specs.Rules.{from, keeps_from, allowed, aims, spread_out, on_nodes, keeps, fits_all, target_check, in_turn, puts, waits_for}
+use Rattle.rules.specs.Rules.{keeps_from, allowed, aims, spread_out, on_nodes, keeps, fits_all, target_check, puts, waits_for}
 use Rattle.rules.specs.declared.tally.Tally.{Tally}
 use Rattle.rules.specs.declared.faults.TargetCheck.TheVariants.{Good}
-use Rattle.rules.proofs.Laws.Adding.{joins, alone, tally-there, empty-running}
-use Rattle.rules.proofs.Laws.Bears.{at-node}
+use Rattle.rules.proofs.Laws.Adding.{joins, alone, tally-there}
 use Rattle.rules.proofs.Laws.Bound.{first-there, first-other}
 use Rattle.rules.proofs.Laws.Meet.{is_false}
 use Rattle.rules.proofs.Laws.Orders.{Under, empty, both, meets_under, bears-under}
 use Rattle.rules.proofs.Laws.Places.{target-there}
 use Rattle.rules.proofs.Laws.Stricter.{good-target}
-use Rattle.planner.specs.Picks.{away, moving, direct, can_go}
+use Rattle.planner.specs.Picks.{away, moving, can_go}
 use Rattle.planner.specs.Inner.{holds_back, held_back}
 use Rattle.planner.proofs.Laws.Direct.{lone-turn}
 use Rattle.planner.proofs.Laws.Pivots.{from_at}

@@ -15,7 +15,7 @@ use mir.Val.{Fits}
 use Rattle.records.specs.Base.{all, sum_of}
 use Rattle.records.specs.Bytes.{bytes16}
 use Rattle.records.specs.Room.{Room, nowhere, room_of, room_at, vm_count, cluster_check}
-use Rattle.records.specs.Plan.{Step, with_sources, move_total, shaped, moves_bytes, step_bytes, steps_bytes, written, written_width}
+use Rattle.records.specs.Plan.{Step, with_sources, move_total, moves_bytes, step_bytes, steps_bytes, written, written_width}
 use Rattle.records.specs.Inner.{tells_sources}
 use Rattle.records.specs.declared.faults.ClusterCheck.TheVariants.{Whole}
 use Rattle.records.proofs.Laws.Cluster.{nodes-most, vms-most}

@@ -1,5 +1,5 @@
 -- Laws on VMs that wait, in the planner: the marks of a placement, a step with one move more, and a pivot, which brings nobody to its target.
-use Prim.Native.Nat.{ℕ, suc, ◌+◌, ◌-◌, ◌≤◌, ◌<◌}
+use Prim.Native.Nat.{ℕ, ◌+◌, ◌-◌, ◌≤◌, ◌<◌}
 use mathlib.Core.Bool.{Bool, true, false, not, ◌&&◌, ◌||◌, false≢true}
 use mathlib.Core.List.{List, [], ◌∷◌, ◌++◌, map}
 use mathlib.Core.Logic.{by_cases}
@@ -9,11 +9,11 @@ use native.Mathlib.Omega.{arith}
 use lib.ListN.{length, get_or, set, replicate, length-set, length-replicate, get_or-replicate}
 use lib.Seq.{get_or-set_same, get_or-set_other, take-set-lt}
 use lib.Dec.{ltb, eqb}
-use borrow.Author.Tests.{ltb-true, eqb-true, eqb-false, eq-eqb, ne_eqb, not-true}
+use borrow.Author.Tests.{ltb-true, eqb-true, eq-eqb, ne_eqb, not-true}
 use Rattle.records.specs.Base.{pick, all}
 use Rattle.records.specs.Room.{Constraint, ban, fence, spread, latency, before, kind_of, first_of, second_of, Room, vm_of, room_of, room_at, at_reserve, node_count, vm_count, constraints_start, constraint_count, part_at, parts_from, constraint_of, constraint_ok, well_formed, filled, cluster_check}
 use Rattle.records.specs.Inner.{Parts}
-use Rattle.records.specs.Plan.{Move, Step}
+use Rattle.records.specs.Plan.{Step}
 use Rattle.records.specs.declared.constraints.Kind.{Kind}
 use Rattle.records.specs.declared.constraints.Kind.TheVariants.{Ban, Fence, Spread, Latency, Before}
 use Rattle.records.specs.declared.faults.ClusterCheck.TheVariants.{Whole}
