@@ -11,7 +11,7 @@ use borrow.Author.Tests.{lt-ltb, le-ltb, ltb-true, ltb-false}
 use Rattle.records.specs.Base.{pick}
 use Rattle.records.specs.Bytes.{AreBytes}
 use Rattle.records.specs.Room.{Room, room_of, room_at, at_reserve}
-use Rattle.records.specs.Plan.{Step, move_total, steps_of, most_steps, plan_check, header_bytes, kept_version, written_version, front_of, written}
+use Rattle.records.specs.Plan.{Step, move_total, steps_of, most_steps, plan_check, header_bytes, kept_version, written_version, front_of}
 use Rattle.records.specs.declared.faults.PlanFault.{PlanFault}
 use Rattle.records.specs.declared.faults.PlanCheck.{PlanCheck}
 use Rattle.records.proofs.Laws.Steps.{empty-steps}

@@ -1,6 +1,6 @@
 -- Laws on writing the record: a copy at the buffer's front, and the places put into it.
-use Prim.Native.Nat.{ℕ, suc, ◌+◌, ◌≤◌, ◌<◌}
-use mathlib.Core.List.{List, [], ◌∷◌, ◌++◌}
+use Prim.Native.Nat.{ℕ, ◌+◌, ◌≤◌, ◌<◌}
+use mathlib.Core.List.{List, ◌++◌}
 use mathlib.Core.Path.{◌≡◌, refl, sym, ap, ◌∙◌}
 use native.Mathlib.Numerals.{add-one}
 use native.Mathlib.Omega.{arith}
@@ -11,7 +11,7 @@ use Rattle.records.specs.Plan.{written}
 use Rattle.records.specs.declared.faults.ClusterCheck.{ClusterCheck}
 use Rattle.records.proofs.Laws.Cluster.{whole-rows}
 use Rattle.records.proofs.Laws.Updated.{updated-to-length, updated-length}
-use Rattle.records.proofs.Laws.Written.{written-zero, written-length, put_one, put_rest}
+use Rattle.records.proofs.Laws.Written.{written-zero, written-length, put_one}
 
 -- ---- a copy at the front: the first i bytes are copied, the others as they were
 
