@@ -35,10 +35,10 @@ bounds-dests-v c = search (rules, vm-low)
 
 pub loop-v-preserved : goal.loop-v-preserved
 loop-v-preserved c = let pre = c.requires in (
-      omega arith,
-      directing-turn _ _ _ _ _ _ _ _ _ _ c.loop-v.invariant.1 pre.0 (omega (arith, c.loop-v-test.true, c.vm_count-n.ensures.0)) c.vm_target.ensures.0 c.wide-d.ensures.0 c.goal-to.ensures c.wide-t.ensures.0 c.wide-t.ensures.1 _ _
-          c.need_of.ensures c.with.ensures,
-    )
+  omega arith,
+  directing-turn _ _ _ _ _ _ _ _ _ _ c.loop-v.invariant.1 pre.0 (omega (arith, c.loop-v-test.true, c.vm_count-n.ensures.0)) c.vm_target.ensures.0 c.wide-d.ensures.0 c.goal-to.ensures c.wide-t.ensures.0 c.wide-t.ensures.1 _ _
+      c.need_of.ensures c.with.ensures,
+)
 
 pub returns : goal.returns
 returns c = search (rules, directing-end)

@@ -11,10 +11,10 @@ returns-then-counts c = search (rules, meets-found)
 
 pub loop-w-preserved : goal.loop-w-preserved
 loop-w-preserved c = elim c.if-pairs-v-ne0.branch [
-        then-pairs-v-ne0+then-w-v+else-counts u ↦ search (rules, meets-away)
-        | then-pairs-v-ne0+else-w-v u ↦ search (rules, meets-self)
-        | else-pairs-v-ne0 u ↦ search (rules, meets-unmarked)
-    ]
+  | then-pairs-v-ne0+then-w-v+else-counts u ↦ search (rules, meets-away)
+  | then-pairs-v-ne0+else-w-v u ↦ search (rules, meets-self)
+  | else-pairs-v-ne0 u ↦ search (rules, meets-unmarked)
+]
 
 pub returns : goal.returns
 returns c = search (rules, meets-end)

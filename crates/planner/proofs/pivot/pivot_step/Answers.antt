@@ -19,12 +19,11 @@ returns-then-d-nodes c =
     first_found _ _ _ _ _ _ _ _ _ c.useful_node-d.ensures c.loop-v.invariant.2 c.loop-v.invariant.1 c.node_count-nodes.ensures.0 c.loop-v-test.true c.if-d-nodes.true
 
 pub loop-v-preserved : goal.loop-v-preserved
-loop-v-preserved c =
-    (
-      omega arith,
-      c.loop-v.invariant.1,
-      first_more _ _ _ _ _ _ _ _ _ c.useful_node-d.ensures c.loop-v.invariant.2 c.loop-v.invariant.1 c.node_count-nodes.ensures.0 c.loop-v-test.true c.if-d-nodes.false,
-    )
+loop-v-preserved c = (
+  omega arith,
+  c.loop-v.invariant.1,
+  first_more _ _ _ _ _ _ _ _ _ c.useful_node-d.ensures c.loop-v.invariant.2 c.loop-v.invariant.1 c.node_count-nodes.ensures.0 c.loop-v-test.true c.if-d-nodes.false,
+)
 
 pub returns : goal.returns
 returns c = search (rules, first-none)

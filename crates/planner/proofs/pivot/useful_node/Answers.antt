@@ -22,15 +22,15 @@ bounds-then-v c = search (rules, vm-low)
 
 pub some_comes-requires : goal.some_comes-requires
 some_comes-requires c = let pre = c.requires in (
-      search rules,
-      search rules,
-      search rules,
-      search rules,
-      useful-waits _ _ _ _ _ _ _ pre.5 c.node_count-n.ensures.0 c.place_at-p.ensures.0 c.vm_target.ensures.0 pre.0 pre.7 c.if-p-vm_target.false c.if-p-ge-NODES.false _ c.pivot_node-d.ensures _
-          pre.4 c.if-n-d.false c.well_formed.1.1.1.1.1.0.1.0.1,
-      set-placed _ _ _ _ pre.5 (node-place _ _ (omega arith)),
-      place-there _ _ _ _ c.place_at-p.ensures.0 pre.0 pre.5 c.if-p-ge-NODES.false,
-    )
+  search rules,
+  search rules,
+  search rules,
+  search rules,
+  useful-waits _ _ _ _ _ _ _ pre.5 c.node_count-n.ensures.0 c.place_at-p.ensures.0 c.vm_target.ensures.0 pre.0 pre.7 c.if-p-vm_target.false c.if-p-ge-NODES.false _ c.pivot_node-d.ensures _
+      pre.4 c.if-n-d.false c.well_formed.1.1.1.1.1.0.1.0.1,
+  set-placed _ _ _ _ pre.5 (node-place _ _ (omega arith)),
+  place-there _ _ _ _ c.place_at-p.ensures.0 pre.0 pre.5 c.if-p-ge-NODES.false,
+)
 
 pub returns-then-some_comes : goal.returns-then-some_comes
 returns-then-some_comes c = let pre = c.requires in
