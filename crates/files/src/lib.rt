@@ -5,12 +5,17 @@
 mod long;
 mod number;
 
-ghost use Rattle.std.specs.Prelude.{◌≡◌, take};
+ghost use Rattle.std.specs.Prelude.{◌≡◌, ◌≤◌, take, length, IfOk};
 
-use libc::{STDERR_FILENO, STDIN_FILENO, STDOUT_FILENO};
 pub use long::stand_in;
 pub use number::Number;
 use number::{all_digits, number_in, to_values};
+use std::env::FillError;
+use std::fmt::InlineText;
+use std::fs::OpenFile;
+use std::io::{ErrorKind, Read, Write};
+use std::rt::{Env, Files};
+use std::{fs, io, str};
 
 // A cluster record has at most 65,535 bytes: one more is too long, whatever follows it. Of a plan file the size matters up to what a
 // record can state, 4,294,967,295.
@@ -24,74 +29,139 @@ pub enum Size {
     Unread,
 }
 
+// Prints a text. What of it cannot be written is lost.
+pub fn put<P: Print>(to: &P, text: &[u8]) {
+    let _ = Print::write_all(to, text);
+}
+
+// Whether there is an argument at a place; the name of the program is at 0.
+pub fn has_argument<R: Env>(rt: &R, argument: usize) -> bool {
+    !matches!(rt.arg(argument, &mut []), Err(FillError::NotPresent))
+}
+
+// Puts an argument at the start of the buffer, and tells its length: 0 if there is none, or if it is too long for the buffer.
+pub fn read_argument<R: Env>(rt: &R, argument: usize, buffer: &mut [u8; 4096]) -> usize
+    ensures { result ≤ 4096 }
+{
+    rt.arg(argument, buffer).unwrap_or(0)
+}
+
 // One read: of what goes at a place of the buffer, or of what goes past it and is not kept.
-fn read_some(fd: i32, buffer: &mut [u8], at: usize) -> isize {
+fn read_some<F: Read>(file: &mut F, buffer: &mut [u8; 65536], at: usize) -> io::Result<usize>
+    ensures { IfOk result (λ n. n ≤ 65536) }
+{
     if at < buffer.len() {
-        return libc::read(fd, &mut buffer[at..]);
+        return file.read(&mut buffer[at..]);
     }
-    let mut past = io::large_buffer();
-    libc::read(fd, &mut past)
+    let mut past = [0u8; 65536];
+    file.read(&mut past)
 }
 
 // Reads to the end, the first bytes into the buffer; or until there are enough, or more than any record can state.
-fn read_all(fd: i32, buffer: &mut [u8; 65536], enough: usize) -> Size {
+fn read_all<F: Read>(file: &mut F, buffer: &mut [u8; 65536], enough: usize) -> io::Result<usize> {
     let mut size: usize = 0;
     while size < 4294967296 {
         if enough <= size {
-            return Size::Bytes(size);
+            return Ok(size);
         }
-        let got = read_some(fd, buffer, size);
-        if got < 0 {
-            return Size::Unread;
-        }
-        let n = io::count(got, buffer);
+        let n = read_some(file, buffer, size)?;
         if n == 0 {
-            return Size::Bytes(size);
+            return Ok(size);
         }
         size += n;
     }
-    Size::Bytes(size)
+    Ok(size)
+}
+
+// The words for an error, without the number that stands behind them.
+fn reason(error: &str) -> &str {
+    match error.split_once(" (os error ") {
+        Some((words, _)) => words,
+        None => error,
+    }
 }
 
 // Says that a program cannot do something to a file, and why.
-fn cannot(program: &[u8], action: &[u8], file: &[u8]) {
-    io::write_all(STDERR_FILENO, program);
-    io::write_all(STDERR_FILENO, action);
-    os::fail(file);
+fn cannot<E: Print>(err: &E, program: &[u8], action: &[u8], file: &[u8], error: io::Error) {
+    let text = InlineText::<128>::of(error);
+    put(err, program);
+    put(err, action);
+    put(err, file);
+    put(err, b": ");
+    put(err, reason(text.as_str()).as_bytes());
+    put(err, b"\n");
+}
+
+// A path as text; one that is none names no file here.
+fn path_text(path: &[u8]) -> io::Result<&str> {
+    match str::from_utf8(path) {
+        Ok(text) => Ok(text),
+        Err(_) => Err(io::Error::from(ErrorKind::InvalidFilename)),
+    }
+}
+
+// Opens the file at a path and reads it.
+fn read_file<R: Files>(
+    rt: &R,
+    path: &[u8],
+    buffer: &mut [u8; 65536],
+    enough: usize,
+) -> io::Result<usize> {
+    let mut file = fs::open(rt, path_text(path)?)?;
+    read_all(&mut file, buffer, enough)
 }
 
 // Reads the file at a path.
-fn read_path(program: &[u8], path: &[u8], buffer: &mut [u8; 65536], enough: usize) -> Size {
-    let fd = os::open_read(path);
-    if fd >= 0 {
-        let found = read_all(fd, buffer, enough);
-        if let Size::Bytes(n) = found {
-            libc::close(fd);
-            return Size::Bytes(n);
+fn read_path<R: Files, E: Print>(
+    rt: &R,
+    err: &E,
+    program: &[u8],
+    path: &[u8],
+    buffer: &mut [u8; 65536],
+    enough: usize,
+) -> Size {
+    match read_file(rt, path, buffer, enough) {
+        Ok(n) => Size::Bytes(n),
+        Err(error) => {
+            cannot(err, program, b": cannot read ", path, error);
+            Size::Unread
         }
     }
-    cannot(program, b": cannot read ", path);
-    Size::Unread
 }
 
 // Reads the file that an argument names, its first bytes into the buffer, to its end or until there are enough.
-pub fn load(program: &[u8], argument: usize, buffer: &mut [u8; 65536], enough: usize) -> Size {
-    let mut path = io::buffer();
-    let n = os::arg(argument, &mut path);
-    read_path(program, &path[..n], buffer, enough)
+pub fn load<R: Env + Files, E: Print>(
+    rt: &R,
+    err: &E,
+    program: &[u8],
+    argument: usize,
+    buffer: &mut [u8; 65536],
+    enough: usize,
+) -> Size {
+    let mut path = [0u8; 4096];
+    let n = read_argument(rt, argument, &mut path);
+    read_path(rt, err, program, &path[..n], buffer, enough)
 }
 
 // The same of standard input.
-pub fn load_input(program: &[u8], buffer: &mut [u8; 65536], enough: usize) -> Size {
-    let found = read_all(STDIN_FILENO, buffer, enough);
-    if let Size::Bytes(n) = found {
-        return Size::Bytes(n);
+pub fn load_input<R: Input, E: Print>(
+    rt: &R,
+    err: &E,
+    program: &[u8],
+    buffer: &mut [u8; 65536],
+    enough: usize,
+) -> Size {
+    match read_all(&mut rt.reader(), buffer, enough) {
+        Ok(n) => Size::Bytes(n),
+        Err(error) => {
+            cannot(err, program, b": cannot read ", b"standard input", error);
+            Size::Unread
+        }
     }
-    cannot(program, b": cannot read ", b"standard input");
-    Size::Unread
 }
 
 // So many bytes of a buffer, or all that it has.
+#[tactic(auto, using(crate::proofs::Laws::Front::fronts))]
 pub fn front(buffer: &[u8], n: usize) -> &[u8]
     ensures { result.now ≡ take n buffer.now }
 {
@@ -110,78 +180,104 @@ pub fn record(buffer: &[u8]) -> &[u8] {
     buffer
 }
 
-// Writes bytes to an open file and closes it; whether all went well.
-fn write_closed(fd: i32, bytes: &[u8]) -> bool {
-    let whole = io::write_all(fd, bytes);
-    let closed = libc::close(fd);
-    whole & (closed == 0)
+// Writes bytes to an open file. A regular one is also brought to the disk, since closing it tells no error.
+fn write_closed<F: Write + OpenFile>(file: &mut F, bytes: &[u8]) -> io::Result<()> {
+    file.write_all(bytes)?;
+    if file.metadata()?.is_file() {
+        file.sync_all()?;
+    }
+    Ok(())
+}
+
+// Opens the file at a path and writes bytes to it.
+fn write_file<R: Files>(rt: &R, path: &[u8], bytes: &[u8]) -> io::Result<()> {
+    let mut file = fs::create(rt, path_text(path)?)?;
+    write_closed(&mut file, bytes)
 }
 
 // Writes bytes to the file at a path.
-fn save_path(program: &[u8], path: &[u8], bytes: &[u8]) -> bool {
-    let fd = os::open_overwrite(path);
-    if fd >= 0 {
-        if write_closed(fd, bytes) {
-            return true;
+fn save_path<R: Files, E: Print>(
+    rt: &R,
+    err: &E,
+    program: &[u8],
+    path: &[u8],
+    bytes: &[u8],
+) -> bool {
+    match write_file(rt, path, bytes) {
+        Ok(()) => true,
+        Err(error) => {
+            cannot(err, program, b": cannot write ", path, error);
+            false
         }
     }
-    cannot(program, b": cannot write ", path);
-    false
 }
 
 // Writes bytes to the file that an argument names; whether all went well.
-pub fn save(program: &[u8], argument: usize, bytes: &[u8]) -> bool {
-    let mut path = io::buffer();
-    let n = os::arg(argument, &mut path);
-    save_path(program, &path[..n], bytes)
+pub fn save<R: Env + Files, E: Print>(
+    rt: &R,
+    err: &E,
+    program: &[u8],
+    argument: usize,
+    bytes: &[u8],
+) -> bool {
+    let mut path = [0u8; 4096];
+    let n = read_argument(rt, argument, &mut path);
+    save_path(rt, err, program, &path[..n], bytes)
 }
 
 // Prints a word and a number.
-pub fn field(word: &[u8], n: u64) {
-    io::write_all(STDOUT_FILENO, word);
-    io::print_decimal(STDOUT_FILENO, n);
+pub fn field<R: Print>(rt: &R, word: &[u8], n: u64) {
+    put(rt, word);
+    let _ = rt.print(n);
 }
 
 // Says that an argument, which is called so, is not what it should be.
-fn is_not(program: &[u8], what: &[u8], wanted: &[u8], text: &[u8]) {
-    io::write_all(STDERR_FILENO, program);
-    io::write_all(STDERR_FILENO, b": ");
-    io::write_all(STDERR_FILENO, what);
-    io::write_all(STDERR_FILENO, wanted);
-    io::write_all(STDERR_FILENO, text);
-    io::write_all(STDERR_FILENO, b"\n");
+fn is_not<E: Print>(err: &E, program: &[u8], what: &[u8], wanted: &[u8], text: &[u8]) {
+    put(err, program);
+    put(err, b": ");
+    put(err, what);
+    put(err, wanted);
+    put(err, text);
+    put(err, b"\n");
 }
 
 // The number that a text is; if it is none, that is said.
-fn read_number(program: &[u8], what: &[u8], text: &[u8]) -> Number {
+fn read_number<E: Print>(err: &E, program: &[u8], what: &[u8], text: &[u8]) -> Number {
     let found = number_in(text);
     if let Number::Not = found {
-        is_not(program, what, b" is not a number in digits: ", text);
+        is_not(err, program, what, b" is not a number in digits: ", text);
     }
     found
 }
 
 // The number that an argument is. One that is too long for the buffer is read as empty, and so is none.
-pub fn load_number(program: &[u8], what: &[u8], argument: usize) -> Number {
-    let mut text = io::buffer();
-    let n = os::arg(argument, &mut text);
-    read_number(program, what, &text[..n])
+pub fn load_number<R: Env, E: Print>(
+    rt: &R,
+    err: &E,
+    program: &[u8],
+    what: &[u8],
+    argument: usize,
+) -> Number {
+    let mut text = [0u8; 4096];
+    let n = read_argument(rt, argument, &mut text);
+    read_number(err, program, what, &text[..n])
 }
 
 // The reserve that an argument is; 0 if there is no such argument.
-pub fn load_reserve(program: &[u8], argument: usize) -> Number {
-    if os::arg_count() <= argument {
+pub fn load_reserve<R: Env, E: Print>(rt: &R, err: &E, program: &[u8], argument: usize) -> Number {
+    if !has_argument(rt, argument) {
         return Number::Is(0);
     }
-    load_number(program, b"the reserve", argument)
+    load_number(rt, err, program, b"the reserve", argument)
 }
 
 // Turns a text of digits, which is called so, into their values, a byte each, and says whether it is one; if not, that is told.
-pub fn read_digits(program: &[u8], what: &[u8], text: &mut [u8]) -> bool {
+#[tactic(auto, using(crate::proofs::Laws::Digits::told))]
+pub fn read_digits<E: Print>(err: &E, program: &[u8], what: &[u8], text: &mut [u8]) -> bool {
     if all_digits(text) {
         to_values(text);
         return true;
     }
-    is_not(program, what, b" are not all digits: ", text);
+    is_not(err, program, what, b" are not all digits: ", text);
     false
 }

@@ -12,6 +12,7 @@ pub enum Number {
 // Larger numbers are told as this one.
 const LARGEST: u64 = 4294967296;
 
+#[tactic(auto, using(crate::proofs::Laws::Numbers::digits))]
 fn is_digit(c: u8) -> bool
     ensures { result ≡ is_digit c }
 {
@@ -22,6 +23,7 @@ fn is_digit(c: u8) -> bool
 }
 
 // A number, or the largest that is told.
+#[tactic(auto, using(crate::proofs::Laws::Numbers::caps))]
 fn cap(n: u64) -> u64
     ensures { (result ≡ capped n) × (result ≤ largest) }
 {
@@ -29,6 +31,7 @@ fn cap(n: u64) -> u64
 }
 
 // A number with one digit more behind it.
+#[tactic(auto, using(crate::proofs::Laws::Numbers::digits))]
 fn one_more(n: u64, c: u8) -> u64
     requires { (n ≤ largest) × (is_digit c ≡ true) }
     ensures { (result ≡ capped (one_more n c)) × (result ≤ largest) }
@@ -37,6 +40,7 @@ fn one_more(n: u64, c: u8) -> u64
 }
 
 // The number that a text is, if it is digits and nothing else.
+#[tactic(auto, using(crate::proofs::Laws::Numbers::readings))]
 pub fn number_in(text: &[u8]) -> Number
     ensures { result ≡ number_in text.now }
 {
@@ -57,6 +61,7 @@ pub fn number_in(text: &[u8]) -> Number
 }
 
 // Whether a text is digits and nothing else.
+#[tactic(auto, using(crate::proofs::Laws::Digits::told))]
 pub fn all_digits(text: &[u8]) -> bool
     ensures { result ≡ all is_digit text.now }
 {
@@ -72,6 +77,7 @@ pub fn all_digits(text: &[u8]) -> bool
 }
 
 // Turns digits into their values.
+#[tactic(auto, using(crate::proofs::Laws::Digits::turned))]
 pub fn to_values(text: &mut [u8])
     requires { all is_digit text.old ≡ true }
     ensures { text.new ≡ values_of text.old }

@@ -1,7 +1,7 @@
 -- Laws on digits by themselves: the pass that tells them, and the one that turns them into their values.
 use Prim.Native.Nat.{ℕ, suc, ◌+◌, ◌-◌, ◌≤◌, ◌<◌}
 use mathlib.Core.Bool.{Bool, true, false, ◌&&◌}
-use mathlib.Core.List.{List, [], ◌∷◌, ◌++◌, map}
+use mathlib.Core.List.{List, ◌∷◌, map}
 use mathlib.Core.Path.{◌≡◌, sym, ap, ◌∙◌}
 use native.Mathlib.Numerals.{add-one}
 use native.Mathlib.Omega.{arith}
@@ -9,7 +9,7 @@ use lib.ListN.{length, get_or, set, take, drop, drop_of_length-le, length-map, g
 use lib.Seq.{drop-cons, take_all}
 use Rattle.records.specs.Base.{all}
 use Rattle.records.proofs.Laws.Bools.{all-at}
-use Rattle.records.proofs.Laws.Written.{put_one}
+use Rattle.records.proofs.Laws.Written.{put_one, put_rest}
 use Rattle.files.specs.Number.{is_digit, values_of}
 use Rattle.files.proofs.Laws.Numbers.{digit-least}
 
@@ -60,3 +60,8 @@ unfolding values_of
 value-end text old i inv l h =
     let k : length (map (λ d. d - 48) old) ≤ i = rw (length-map old (λ d. d - 48)) (omega arith) in
     sym (take_all i text h) ∙ inv ∙ take_all i (map (λ d. d - 48) old) k
+
+-- the laws that the proofs of the two passes rest on
+pub ruleset told = (digits-not, digits_more, digits-end, digits-all)
+
+pub ruleset turned = (value-least, value-more, value-end, put_rest)

@@ -11,3 +11,6 @@ front-part l n = let e : n - 0 ≡ n = omega arith in rw e
 
 pub front-all : (l : List ℕ) (n : ℕ) → length l ≤ n → l ≡ take n l
 front-all l n h = sym (take_all n l h)
+
+-- the laws that the proof of `front` rests on
+pub ruleset fronts = (front-part, front-all)

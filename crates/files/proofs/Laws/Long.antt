@@ -1,5 +1,5 @@
 -- Laws on what stands in for a plan file that is longer than any plan.
-use Prim.Native.Nat.{ℕ, ◌-◌, ◌≤◌, ◌<◌}
+use Prim.Native.Nat.{ℕ, ◌≤◌, ◌<◌}
 use mathlib.Core.Bool.{Bool, true, false, ◌&&◌}
 use mathlib.Core.List.{List, [], ◌∷◌}
 use mathlib.Core.Path.{◌≡◌, refl, sym, ap, ◌∙◌}
@@ -67,3 +67,6 @@ module _ (first : List ℕ) (size version stated : ℕ) (v : version ≡ get_or 
       (λ file f l k. untold-at-fault version k ∙
       plan-length file version (v ∙ byte-first file first f 0 (omega arith)) (omega arith) (known_version version) refl
       stated (t ∙ stated-first file first f) k (λ q. w (q ∙ l)))
+
+-- the laws that the proof of `stand_in` rests on
+pub ruleset alikes = (alike-told, alike-untold)

@@ -1,6 +1,6 @@
 -- Laws on numbers in digits: one digit more, and the pass over a text.
-use Prim.Native.Nat.{ℕ, suc, ◌+◌, ◌-◌, ◌*◌, ◌≤◌, ◌<◌}
-use mathlib.Core.Bool.{Bool, true, false, not, ◌&&◌, ◌||◌}
+use Prim.Native.Nat.{ℕ, suc, ◌+◌, ◌≤◌, ◌<◌}
+use mathlib.Core.Bool.{Bool, true, false, ◌&&◌}
 use mathlib.Core.List.{List, [], ◌∷◌}
 use mathlib.Core.Logic.{by_cases}
 use mathlib.Core.Path.{◌≡◌, refl, sym, ap, ◌∙◌}
@@ -9,9 +9,9 @@ use native.Mathlib.Numerals.{add-one}
 use native.Mathlib.Omega.{arith}
 use lib.ListN.{length, get_or, drop, drop_of_length-le}
 use lib.Seq.{drop-cons}
-use lib.Dec.{ltb, leb, eqb}
+use lib.Dec.{leb, eqb}
 use borrow.Author.Tests.{lt-ltb, le-ltb, lt-leb, le-leb, leb-true, ne_eqb, eq-eqb}
-use Rattle.records.specs.Base.{pick, all}
+use Rattle.records.specs.Base.{all}
 use Rattle.records.proofs.Laws.Bools.{and_left}
 use Rattle.files.specs.Number.{is_digit, one_more, value_behind, largest, capped, number_in}
 use Rattle.files.specs.declared.number.Number.TheVariants.{Is, Not}
@@ -110,3 +110,10 @@ reading-end text n i w h =
   where
     same : n ≡ capped n
     same = by_cases (dec_lt n largest) (λ l. cap-low n l) (λ l. let a = w.low in let b : n ≡ largest = omega arith in b ∙ cap-high n (omega arith))
+
+-- the laws that the proofs of the functions on numbers rest on
+pub ruleset digits = (digit-below, digit-from, digit-least)
+
+pub ruleset caps = (cap-low, cap-high)
+
+pub ruleset readings = (reading-none, reading-start, reading-not, reading-digit, reading-end)
