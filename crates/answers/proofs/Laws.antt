@@ -8,6 +8,7 @@ use Rattle.records.specs.Plan.{step_count, step_end, plan_check}
 use Rattle.records.specs.Inner.{Steps}
 use Rattle.records.specs.declared.faults.PlanCheck.{PlanCheck}
 use Rattle.records.proofs.Laws.Steps.{steps-start, steps_next, step-within}
+use Rattle.rules.proofs.Laws.Turns.{cluster-whole, plan-is-whole}
 
 -- before any step, n of them being in the record
 pub walk_start : (s : List ℕ) (n : ℕ) → n ≡ step_count s → plan_check s ≡ PlanCheck.Whole → Steps s 7 (n - 0)
@@ -20,3 +21,6 @@ module _ (s : List ℕ) (at i n : ℕ) (w : Steps s at (n - i)) (z : i < n) wher
 
   pub walk-next : (end : ℕ) → end ≡ step_end s at → Steps s end (n - (i + 1))
   walk-next end q = let e : n - (i + 1) ≡ (n - i) - 1 = omega arith in rw (q, e) (steps_next s at (n - i) w (omega arith))
+
+-- that both records are whole
+pub ruleset whole = (cluster-whole, plan-is-whole)
