@@ -2,58 +2,66 @@
 use planner::{Answer, Made};
 use rules::Verdict;
 
-fn line(label: &[u8], number: u64) {
-    io::print_decimal(1, number);
-    io::write_all(1, b" ");
-    io::write_all(1, label);
-    io::write_all(1, b"\n");
+fn text<R: Print>(rt: &R, bytes: &[u8]) {
+    let _ = rt.write_all(bytes);
+}
+
+fn decimal<R: Print>(rt: &R, n: u64) {
+    let _ = rt.print(n);
+}
+
+fn line<R: Print>(rt: &R, label: &[u8], number: u64) {
+    decimal(rt, number);
+    text(rt, b" ");
+    text(rt, label);
+    text(rt, b"\n");
 }
 
 // The verdict on a plan for a cluster.
-pub fn verdict(cluster: &[u8], plan: &[u8], label: &[u8]) {
+pub fn verdict<R: Print>(rt: &R, cluster: &[u8], plan: &[u8], label: &[u8]) {
     let found = rules::verdict_on(0, cluster, plan);
     match found {
         Verdict::Accepted(cost) => {
-            io::write_all(1, b"accepted cost ");
-            line(label, cost);
+            text(rt, b"accepted cost ");
+            line(rt, label, cost);
         }
         Verdict::Refused(f) => {
-            io::write_all(1, b"refused ");
-            io::print_decimal(1, rules::fault_number(f));
-            io::write_all(1, b" step ");
-            line(label, rules::fault_step(f) as u64);
+            text(rt, b"refused ");
+            decimal(rt, rules::fault_number(f));
+            text(rt, b" step ");
+            line(rt, label, rules::fault_step(f) as u64);
         }
     }
 }
 
 // The counts of a plan or of blocked, behind that word.
-fn made(m: Made, label: &[u8]) {
-    io::write_all(1, b" steps ");
-    io::print_decimal(1, m.steps);
-    io::write_all(1, b" moves ");
-    io::print_decimal(1, m.moves);
-    io::write_all(1, b" cost ");
-    line(label, m.cost);
+fn made<R: Print>(rt: &R, m: Made, label: &[u8]) {
+    text(rt, b" steps ");
+    decimal(rt, m.steps);
+    text(rt, b" moves ");
+    decimal(rt, m.moves);
+    text(rt, b" cost ");
+    line(rt, label, m.cost);
 }
 
 // What the planner answers, with the first so many bytes lent to it.
-fn asked(cluster: &[u8], out: &mut [u8], size: usize, label: &[u8]) {
+fn asked<R: Print>(rt: &R, cluster: &[u8], out: &mut [u8], size: usize, label: &[u8]) {
     if size <= out.len() {
         let found = planner::answer_to(0, cluster, &mut out[0..size]);
         match found {
             Answer::Plan(m) => {
-                io::write_all(1, b"plan");
-                made(m, label);
+                text(rt, b"plan");
+                made(rt, m, label);
             }
             Answer::Blocked(m) => {
-                io::write_all(1, b"blocked");
-                made(m, label);
+                text(rt, b"blocked");
+                made(rt, m, label);
             }
             Answer::Refused(f) => {
-                io::write_all(1, b"refused ");
-                io::print_decimal(1, planner::build_number(f));
-                io::write_all(1, b" step ");
-                line(label, 0);
+                text(rt, b"refused ");
+                decimal(rt, planner::build_number(f));
+                text(rt, b" step ");
+                line(rt, label, 0);
             }
         }
     }
@@ -72,14 +80,14 @@ fn rest(out: &[u8; 2600]) -> usize {
 }
 
 // The answer to a cluster with a buffer of so many bytes, at the front of 2,600; then how many of those stay.
-pub fn answer(cluster: &[u8], size: usize, label: &[u8]) {
+pub fn answer<R: Print>(rt: &R, cluster: &[u8], size: usize, label: &[u8]) {
     let mut out = [165u8; 2600];
-    asked(cluster, &mut out, size, label);
-    line(b"of 2,600 bytes stay", rest(&out) as u64);
+    asked(rt, cluster, &mut out, size, label);
+    line(rt, b"of 2,600 bytes stay", rest(&out) as u64);
 }
 
 // The verdict on a plan of no steps, and the answer.
-pub fn both(cluster: &[u8], label: &[u8]) {
-    verdict(cluster, b"\x01\0\0\0\x07\0\0", label);
-    answer(cluster, planner::LEAST_BUFFER, label);
+pub fn both<R: Print>(rt: &R, cluster: &[u8], label: &[u8]) {
+    verdict(rt, cluster, b"\x01\0\0\0\x07\0\0", label);
+    answer(rt, cluster, planner::LEAST_BUFFER, label);
 }

@@ -2,6 +2,6 @@
 // an argument, the record of these moves also goes to the file that it names.
 #![tactic(auto)]
 
-fn main() {
-    answers::run(b"plan", 0, 1);
+fn main(rt: HostRuntime) {
+    answers::run(&rt, &rt.stderr(), b"plan", 0, 1);
 }

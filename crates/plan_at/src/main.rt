@@ -3,19 +3,19 @@
 #![tactic(auto)]
 
 use files::Number;
-use libc::STDERR_FILENO;
 
-fn main() {
-    if os::arg_count() < 2 {
-        io::write_all(
-            STDERR_FILENO,
+fn main(rt: HostRuntime) {
+    let err = rt.stderr();
+    if !files::has_argument(&rt, 1) {
+        files::put(
+            &err,
             b"plan_at: it takes a reserve, and a file for the plan record if it is to be written\n",
         );
         return;
     }
-    let found = files::load_number(b"plan_at", b"the reserve", 1);
+    let found = files::load_number(&rt, &err, b"plan_at", b"the reserve", 1);
     let Number::Is(reserve) = found else {
         return;
     };
-    answers::run(b"plan_at", reserve, 2);
+    answers::run(&rt, &err, b"plan_at", reserve, 2);
 }

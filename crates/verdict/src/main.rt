@@ -3,68 +3,79 @@
 #![tactic(auto)]
 
 use files::{Number, Size};
-use libc::{STDERR_FILENO, STDOUT_FILENO};
 use rules::{Fault, Verdict};
+use std::rt::Env;
 
-fn refused(fault: Fault) {
-    files::field(b"refused ", rules::fault_number(fault));
-    files::field(b" step ", rules::fault_step(fault) as u64);
+fn refused<R: Print>(rt: &R, fault: Fault) {
+    files::field(rt, b"refused ", rules::fault_number(fault));
+    files::field(rt, b" step ", rules::fault_step(fault) as u64);
 }
 
 // The line of a verdict.
-fn judged(reserve: u64, cluster: &[u8], plan: &[u8]) {
+fn judged<R: Print>(rt: &R, reserve: u64, cluster: &[u8], plan: &[u8]) {
     let found = rules::verdict_on(reserve, cluster, plan);
     match found {
-        Verdict::Accepted(cost) => files::field(b"accepted cost ", cost),
-        Verdict::Refused(fault) => refused(fault),
+        Verdict::Accepted(cost) => files::field(rt, b"accepted cost ", cost),
+        Verdict::Refused(fault) => refused(rt, fault),
     }
-    io::write_all(STDOUT_FILENO, b"\n");
+    files::put(rt, b"\n");
 }
 
 // The line of the verdict on files of so many bytes, whose first are in the buffers.
-fn judged_files(reserve: u64, cluster: &[u8; 65536], n: usize, plan: &[u8; 65536], m: usize) {
+fn judged_files<R: Print>(
+    rt: &R,
+    reserve: u64,
+    cluster: &[u8; 65536],
+    n: usize,
+    plan: &[u8; 65536],
+    m: usize,
+) {
     let record = files::front(cluster, n);
     if m <= records::LONGEST_PLAN {
-        judged(reserve, record, files::front(plan, m));
+        judged(rt, reserve, record, files::front(plan, m));
     } else {
         let short = files::stand_in(plan, m);
-        judged(reserve, record, &short);
+        judged(rt, reserve, record, &short);
     }
 }
 
 // Whether there are two arguments or three; says what there should be if not.
-fn arguments_fit() -> bool {
-    let n = os::arg_count();
-    if n == 3 {
+fn arguments_fit<R: Env, E: Print>(rt: &R, err: &E) -> bool {
+    if files::has_argument(rt, 2) && !files::has_argument(rt, 4) {
         return true;
     }
-    if n == 4 {
-        return true;
-    }
-    io::write_all(
-        STDERR_FILENO,
+    files::put(
+        err,
         b"verdict: it takes a cluster file and a plan file, and a reserve if one is kept\n",
     );
     false
 }
 
-fn main() {
-    if !arguments_fit() {
+fn main(rt: HostRuntime) {
+    let err = rt.stderr();
+    if !arguments_fit(&rt, &err) {
         return;
     }
-    let asked = files::load_reserve(b"verdict", 3);
+    let asked = files::load_reserve(&rt, &err, b"verdict", 3);
     let Number::Is(reserve) = asked else {
         return;
     };
-    let mut cluster = io::large_buffer();
-    let mut plan = io::large_buffer();
-    let first = files::load(b"verdict", 1, &mut cluster, files::CLUSTER_ENOUGH);
+    let mut cluster = [0u8; 65536];
+    let mut plan = [0u8; 65536];
+    let first = files::load(
+        &rt,
+        &err,
+        b"verdict",
+        1,
+        &mut cluster,
+        files::CLUSTER_ENOUGH,
+    );
     let Size::Bytes(n) = first else {
         return;
     };
-    let second = files::load(b"verdict", 2, &mut plan, files::PLAN_ENOUGH);
+    let second = files::load(&rt, &err, b"verdict", 2, &mut plan, files::PLAN_ENOUGH);
     let Size::Bytes(m) = second else {
         return;
     };
-    judged_files(reserve, &cluster, n, &plan, m);
+    judged_files(&rt, reserve, &cluster, n, &plan, m);
 }
