@@ -1,5 +1,5 @@
 // The files and the arguments of the programs: a file is read to its end or not at all, and written whole or not; what cannot be is said on
-// standard error, and why. And what they print: words and numbers.
+// standard error, and why. And what they print: words and numbers. A program's `rt` has its files and arguments, and `err` is standard error.
 #![tactic(auto)]
 
 mod long;
@@ -180,11 +180,21 @@ pub fn record(buffer: &[u8]) -> &[u8] {
     buffer
 }
 
-// Writes bytes to an open file. A regular one is also brought to the disk, since closing it tells no error.
+// Brings a file's bytes to the disk. A file system that cannot be asked to is taken for one that has nothing left to do.
+fn sync<F: OpenFile>(file: &F) -> io::Result<()> {
+    if let Err(error) = file.sync_all() {
+        if error.kind() != ErrorKind::InvalidInput {
+            return Err(error);
+        }
+    }
+    Ok(())
+}
+
+// Writes bytes to an open file. Those of a regular one are brought to the disk too, since closing a file tells no error.
 fn write_closed<F: Write + OpenFile>(file: &mut F, bytes: &[u8]) -> io::Result<()> {
     file.write_all(bytes)?;
     if file.metadata()?.is_file() {
-        file.sync_all()?;
+        sync(file)?;
     }
     Ok(())
 }
