@@ -1,5 +1,5 @@
 #!/usr/bin/env bash
-# Makes what a C program needs, from librules.a, libplanner.a, libstop.a and libsplit.a in STATICLIB-DIR:
+# Makes what a C program needs, from libkobdrieft_c.a in STATICLIB-DIR, which has the four functions:
 #     agent/lib.sh STATICLIB-DIR OUT-DIR
 # OUT-DIR/libkobdrieft.a has the four functions under names that carry the header's version, and every other name hidden;
 # OUT-DIR/kobdrieft.h is agent/kobdrieft.h with the texts of docs/REFUSALS.md in it. Both are put there when both are good.
@@ -48,13 +48,13 @@ set_names() {
 
 # ---- the archive
 
-# An object of all that an archive has, where one function keeps a name for others to call, and gets a new one. The section removed is a
-# hint to linkers that lists symbols by their place, which has changed.
-object() { # ARCHIVE NAME NEW-NAME
-  local made=$work/$3.o
-  ld -r --whole-archive "$1" -o "$made" || fail "ld cannot join what is in $1"
-  objcopy --keep-global-symbol="$2" --remove-section=.llvm_addrsig "$made" || fail "objcopy cannot hide the names of $1"
-  objcopy --redefine-sym "$2=$3" "$made" || fail "objcopy cannot rename $2 of $1"
+# An object of one function of the archive and all that it calls there. It alone keeps a name for others to call, and gets a new one. The
+# section removed is a hint to linkers that lists symbols by their place, which has changed.
+object() { # NAME NEW-NAME
+  local made=$work/$2.o
+  ld -r --gc-sections --entry="$1" --whole-archive "$static" -o "$made" || fail "ld cannot take $1 from $static"
+  objcopy --keep-global-symbol="$1" --remove-section=.llvm_addrsig "$made" || fail "objcopy cannot hide the names of $static"
+  objcopy --redefine-sym "$1=$2" "$made" || fail "objcopy cannot rename $1 of $static"
 }
 
 # The names an archive gives to others, or those it takes from them.
@@ -76,11 +76,22 @@ as_said() { # ARCHIVE
   done
 }
 
+# Whether all four functions are there to be taken.
+has_four() {
+  local names name
+  names=$(given "$static") || fail "nm cannot read $static"
+  for name in check build stop split; do
+    [[ $'\n'$names$'\n' == *$'\n'$name$'\n'* ]] ||
+      fail "the archive must define $build, $check, $split and $stop alone; there is no $name in $static"
+  done
+}
+
 archive() {
-  object "$libs/librules.a" check "$check"
-  object "$libs/libplanner.a" build "$build"
-  object "$libs/libstop.a" stop "$stop"
-  object "$libs/libsplit.a" split "$split"
+  has_four
+  object check "$check"
+  object build "$build"
+  object stop "$stop"
+  object split "$split"
   ar rcsD "$work/libkobdrieft.a" "$work/$check.o" "$work/$build.o" "$work/$stop.o" "$work/$split.o" ||
     fail "ar cannot write the archive"
   as_said "$work/libkobdrieft.a"
@@ -137,9 +148,9 @@ headers() {
 # ----
 
 [ $# -eq 2 ] || fail "usage: agent/lib.sh STATICLIB-DIR OUT-DIR" 3
-libs=$1
+static=$1/libkobdrieft_c.a
 out=$2
-needs "$libs/librules.a" "$libs/libplanner.a" "$libs/libstop.a" "$libs/libsplit.a" "$header" "$refusals"
+needs "$static" "$header" "$refusals"
 set_names
 mkdir -p -- "$out" || fail "cannot make $out"
 work=$(mktemp -d -- "$out/.lib.XXXXXX") || fail "cannot write in $out"

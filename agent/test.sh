@@ -205,26 +205,42 @@ texts() {
   group "texts"
 }
 
-# ---- agent/lib.sh, in a small repository whose archives are made here
+# ---- agent/lib.sh, in a small repository whose archive is made here
 
 tree=$work/tree
+static=$tree/static/libkobdrieft_c.a
 
-# library NAME CODE: an archive of this C code.
+# library CODE: an archive of this C code, with a section for each function as the library has it.
 library() {
-  echo "$2" >"$work/$1.c"
-  "$cc" -c "$work/$1.c" -o "$work/$1.o" && rm -f "$tree/static/lib$1.a" && ar rc "$tree/static/lib$1.a" "$work/$1.o"
+  echo "$1" >"$work/library.c"
+  rm -f "$static"
+  "$cc" -O0 -ffunction-sections -c "$work/library.c" -o "$work/library.o" && ar rc "$static" "$work/library.o"
 }
 
-# The small repository as it should be; all four archives have a function `helper`.
+# The functions of the small library as they should be; all four call `helper`, and each has one of its own.
+helper='int helper(int number) { return number; }'
+own_check='int helper_1(void) { return helper(1); } int check(void) { return helper_1(); }'
+own_build='int helper_2(void) { return helper(2); } int build(void) { return helper_2(); }'
+own_stop='int helper_3(void) { return helper(3); } int stop(void) { return helper_3(); }'
+own_split='int helper_4(void) { return helper(4); } int split(void) { return helper_4(); }'
+
+# without_own NAME CODE: the library with this code in the place of one of the four.
+without_own() {
+  local code=$helper name own
+  for name in check build stop split; do
+    own=own_$name
+    [ "$name" = "$1" ] && code+=$'\n'$2 || code+=$'\n'${!own}
+  done
+  library "$code"
+}
+
+# The small repository as it should be.
 plant() {
   rm -rf "$tree"
   mkdir -p "$tree/agent" "$tree/docs" "$tree/static"
   cp "$here/lib.sh" "$here/kobdrieft.h" "$tree/agent/"
   cp "$refusals" "$tree/docs/"
-  library rules 'int helper(void) { return 1; } int check(void) { return helper(); }'
-  library planner 'int helper(void) { return 2; } int build(void) { return helper(); }'
-  library stop 'int helper(void) { return 3; } int check(void) { return 9; } int stop(void) { return helper(); }'
-  library split 'int helper(void) { return 4; } int check(void) { return 9; } int split(void) { return helper(); }'
+  library "$helper $own_check $own_build $own_stop $own_split"
 }
 
 lib() {
@@ -247,6 +263,17 @@ refuses() {
   cat "$work/said"
   [ "$ended" -eq 4 ] && [ "$(wc -l <"$work/said")" -eq 1 ] && grep -qF -- "$text" "$work/said" &&
     [ "$(ls -A "$tree/out")" = libkobdrieft.a ] && [ "$(cat "$tree/out/libkobdrieft.a")" = before ]
+}
+
+# members ARCHIVE: each object of it and the functions that it has, whoever may call them.
+members() {
+  nm --defined-only -A "$1" | awk -F '[: ]+' '$4 == "t" || $4 == "T" { print $2, $5 }' | sort
+}
+
+# Each object has what its function calls, and no more.
+own_code() {
+  members "$tree/out/libkobdrieft.a" | diff - <(printf '%s\n' "$build.o "{helper,helper_2,"$build"} "$check.o "{helper,helper_1,"$check"} \
+    "$split.o "{helper,helper_4,"$split"} "$stop.o "{helper,helper_3,"$stop"} | sort)
 }
 
 # Where a program has a `helper` too, all five are called.
@@ -274,40 +301,42 @@ without() {
 }
 
 lib_archives() {
-  local tool
+  local tool name
   plant
   expect "lib.sh makes two files" makes
   expect "lib.sh makes them again" makes
-  expect "names of the four archives keep apart" helpers_apart
+  expect "names of the four functions keep apart" helpers_apart
+  expect "each of the four has its own code" own_code
+  without_own split 'int check(void); int split(void) { return check() + 3; }'
+  expect "a split that calls the check" makes
+  expect "its names keep apart" helpers_apart
   for tool in ld objcopy ar nm awk; do
     plant
     expect "no $tool" refuses "'$tool' is not on the PATH" without "$tool"
   done
   expect "all tools" without none
-  plant && rm "$tree/static/librules.a"
-  expect "no librules.a" refuses 'librules.a is missing' lib
-  plant && rm "$tree/static/libplanner.a"
-  expect "no libplanner.a" refuses 'libplanner.a is missing' lib
-  plant && rm "$tree/static/libstop.a"
-  expect "no libstop.a" refuses 'libstop.a is missing' lib
-  plant && rm "$tree/static/libsplit.a"
-  expect "no libsplit.a" refuses 'libsplit.a is missing' lib
-  plant && library rules 'int checks(void) { return 1; }'
-  expect "no check in librules.a" refuses "must define $build, $check, $split and $stop alone" lib
-  plant && library stop 'int stops(void) { return 1; } int check(void) { return 9; }'
-  expect "no stop in libstop.a" refuses "must define $build, $check, $split and $stop alone" lib
-  plant && library split 'int splits(void) { return 1; } int check(void) { return 9; }'
-  expect "no split in libsplit.a" refuses "must define $build, $check, $split and $stop alone" lib
-  plant && library planner 'int puts(const char *); int build(void) { return puts(""); }'
+  plant && rm "$static"
+  expect "no libkobdrieft_c.a" refuses 'libkobdrieft_c.a is missing' lib
+  plant && mv "$static" "$tree/static/librules.a"
+  expect "an archive of another name" refuses 'libkobdrieft_c.a is missing' lib
+  plant && rm "$static" && mkdir "$static"
+  expect "a folder for an archive" refuses 'libkobdrieft_c.a is missing' lib
+  plant && rm -r "$tree/static"
+  expect "no folder of the archive" refuses 'libkobdrieft_c.a is missing' lib
+  for name in check build stop split; do
+    plant && without_own $name "int ${name}s(void) { return 1; }"
+    expect "no $name in libkobdrieft_c.a" refuses "must define $build, $check, $split and $stop alone" lib
+  done
+  plant && without_own build 'int puts(const char *); int build(void) { return puts(""); }'
   expect "a planner that prints" refuses 'calls puts' lib
-  plant && library rules '#include <string.h>
+  plant && without_own check '#include <string.h>
 int check(void *a, void *b) { return memcpy(a, b, 99) == a; }'
   expect "a checker that copies" makes
-  plant && library stop '#include <stdlib.h>
+  plant && without_own stop '#include <stdlib.h>
 int stop(void) { void *room = malloc(9); free(room); return room != NULL; }'
   expect "a stop that allocates" refuses 'the archive calls ' lib
-  plant && library split 'int check(void); int split(void) { return check(); }'
-  expect "a split that lacks its check" refuses 'calls check' lib
+  plant && without_own split 'int checked(void); int split(void) { return checked(); }'
+  expect "a split that lacks its check" refuses 'calls checked' lib
   expect "lib.sh with one argument" wrong_use
 }
 
