@@ -76,7 +76,7 @@ long_plan 03 4104 4104 >past-versioned
 a_plan=$(cat "$root/crates/plan/stdout")
 
 "$driver" plan 'cluster A' >/dev/null # builds what is missing, and says so
-files() { find "$1" -path "$1/target" -prune -o -type f -print | sort; }
+files() { find "$1" \( -path "$1/target" -o -path "$1/crates/*/out" \) -prune -o -type f -print | sort; }
 before=$(files .)
 
 # what the programs print; what a refusal means goes to standard error
@@ -328,32 +328,33 @@ expect 'nothing written' 0 "$before" '' files .
 
 # ---- a small repository, with a kit that is a script
 small=$room/'small one'
-mkdir -p "$small/crates/plan" "$small/model/harness" "$small/agent" "$room/tools" "$room/kit"
+mkdir -p "$small"/crates/{plan,plan_at,verdict/data,stopped,divided,kobdrieft_c} "$small/model/harness" "$small/agent" "$room/tools" "$room/kit"
 cp "$driver" "$small/kobdrieft"
 : >"$small/crates.txt"
 : >"$small/crates/plan/source"
-for tool in awk bash cat chmod cp date dirname env find flock head mkdir readlink rm sleep tail touch; do
+for tool in awk bash cat chmod cmp cp date dirname env find flock head mkdir mv readlink rm sleep tail touch; do
   ln -s "$(command -v "$tool")" "$room/tools/$tool"
 done
+# what the programs are to do: one is given its stdin, one its args, a file of data/ and a status, the others nothing
+echo 'plan steps 1' | tee "$small/crates/plan/stdin" >"$small/crates/plan/stdout"
+echo 'accepted cost 1' | tee "$small/crates/verdict/data/a file" >"$small/crates/verdict/stdout"
+printf '%s\n' 'a file' 7 >"$small/crates/verdict/args"
+echo 7 >"$small/crates/verdict/status"
+# rt builds what the folder that it is run in has
 cat >"$room/kit/rt" <<'EOF'
 #!/usr/bin/env bash
-echo "rt $*"
-echo "rt $*" >>"$CALLS"
+echo "rt $* in ${PWD##*/}"
+echo "rt $* in ${PWD##*/}" >>"$CALLS"
 [ ! -e "$CALLS.slow" ] || sleep 1
 [ ! -e "$CALLS.break" ] || { echo 'rules NOT PROVED'; exit 1; }
-mkdir -p target/bin target/stamp target/staticlib
-if [ "$1" = check ]; then
-  printf '#!/usr/bin/env bash\ncat\n' >target/bin/plan
-  printf '#!/usr/bin/env bash\ncat "$1"; exit "${ENDS:-0}"\n' >target/bin/verdict
-  chmod +x target/bin/plan target/bin/verdict
-  cp target/bin/plan target/bin/plan_at
-  cp target/bin/plan target/bin/stopped
-  cp target/bin/plan target/bin/divided
-  for name in plan plan_at verdict stopped divided; do
-    : >"target/stamp/$name"
-  done
+mkdir -p out
+if [ "$1" = run ]; then
+  printf '#!/usr/bin/env bash\ncat\n' >"out/$2"
+  [ "$2" != verdict ] || printf '#!/usr/bin/env bash\n[ $# -eq 0 ] || cat "$1"\n[ "${2-}" = 7 ] && exit 7\nexit "${ENDS:-0}"\n' >"out/$2"
+  chmod +x "out/$2"
+  "out/$2"
 else
-  : >"target/staticlib/lib$2.a"
+  : >"out/lib${PWD##*/}.a"
 fi
 EOF
 cat >"$room/kit/cargo" <<'EOF'
@@ -370,6 +371,7 @@ bare() { PATH=$room/tools "$small/kobdrieft" "$@"; }
 kit() { PATH=$room/kit:$room/tools "$small/kobdrieft" "$@"; }
 both_at_once() { kit plan said & kit plan said; wait; }
 calls() { cat "$CALLS" 2>/dev/null; rm -f "$CALLS"; }
+five=$(printf 'rt run %s in %s\n' plan plan plan_at plan_at verdict verdict stopped stopped divided divided)
 
 expect 'no kit' 4 '' "kobdrieft: 'rt' is not on the PATH: the Rattle kit is needed to build the planner and the checker" bare plan said
 expect 'no kit to test' 4 '' "kobdrieft: 'rt' is not on the PATH: *" bare test
@@ -377,31 +379,55 @@ expect 'no cargo' 4 '' "kobdrieft: 'cargo' is not on the PATH: *" bare bench
 expect 'a file is looked at before a build' 3 '' 'kobdrieft: no such file: nothing' kit plan nothing
 expect 'nothing was built' 0 '' '' calls
 : >"$CALLS.break"
-expect 'a failed build' 4 '' '*about 3 minutes, once*rules NOT PROVED*kobdrieft: failed: rt check plan plan_at verdict stopped divided; the whole log is *' kit plan said
+expect 'a failed build' 4 '' '*about 3 minutes, once*rules NOT PROVED*kobdrieft: failed: rt run plan; the whole log is *' kit plan said
 rm -f "$CALLS.break" "$CALLS"
 expect 'first use' 0 'plan steps 0' "kobdrieft: proving and building the planner and the checker, about 3 minutes, once (log: $small/target/kobdrieft.log)" kit plan said
-expect 'one build' 0 'rt check plan plan_at verdict stopped divided' '' calls
-expect 'the log has it' 0 'rt check plan plan_at verdict stopped divided' '' cat "$small/target/kobdrieft.log"
+expect 'one build' 0 "$five" '' calls
+expect 'the log has it' 0 "$five" '' cat "$small/target/kobdrieft.log"
 expect 'second use' 0 'plan steps 0' '' kit plan said
 expect 'without the kit once built' 0 'plan steps 0' '' bare plan said
 expect 'no second build' 0 '' '' calls
 touch "$small/crates/plan/source"
 expect 'a source changed' 0 'plan steps 0' '*the checker anew, up to 3 minutes*' kit plan said
-rm "$small/target/stamp/plan"
+rm "$small/target/bin/plan"
 expect 'a program not seen to run' 0 'plan steps 0' '*proving and building*' kit plan said
 rm "$small/target/bin/verdict"
 expect 'a program missing' 0 'plan steps 0' '*proving and building*' kit check said said
-expect 'three builds' 0 "$(printf 'rt check plan plan_at verdict stopped divided\n%.0s' 1 2 3)" '' calls
+expect 'three builds' 0 "$five"$'\n'"$five"$'\n'"$five" '' calls
+echo more >"$small/crates/divided/out/more"
+expect 'what rt keeps is no source' 0 'plan steps 0' '' kit plan said
+
+# a program that is proved but does not do what its crate says is not put into bin/, and is built again
+wrong_run() { # FOLDER NAME TEXT PATTERN
+  rm -r "$small/target"
+  cp -R "$small/crates/$1" "$room/kept"
+  printf %s "$3" >"$small/crates/$1/$2"
+  expect "another $1/$2" 4 '' "*$4*kobdrieft: failed: runs_as_it_should $1; the whole log is *" kit plan said
+  expect "$1 is not there" 1 '' '' test -e "$small/target/bin/$1"
+  rm -r "${small:?}/crates/$1"
+  mv "$room/kept" "$small/crates/$1"
+  touch "$small/crates/$1"
+}
+wrong_run plan stdin 'plan steps 2' differ
+wrong_run plan stdout 'plan steps 1' EOF
+wrong_run plan stdout '' 'EOF on *stdout'
+wrong_run plan_at stdin 'plan steps 1' 'EOF on /dev/null'
+wrong_run plan_at status 1 'plan_at ended with status 0, and not 1'
+wrong_run verdict args 'a file' 'verdict ended with status 0, and not 7'
+wrong_run verdict args $'no file\n7' 'EOF on ../stdout'
+wrong_run verdict data/'a file' 'accepted cost 2' differ
+expect 'a program seen to run at last' 0 'plan steps 0' '*proving and building*' kit plan said
+rm -f "$CALLS"
 rm -r "$small/target"
 : >"$CALLS.slow"
 expect 'two first uses at once' 0 $'plan steps 0\nplan steps 0' '*another build is under way; waiting for it*' both_at_once
-expect 'one of them builds' 0 'rt check plan plan_at verdict stopped divided' '' calls
+expect 'one of them builds' 0 "$five" '' calls
 rm "$CALLS.slow"
 expect 'a program that breaks off' 4 '' 'kobdrieft: * ended with status 4' env ENDS=4 PATH="$room/tools" "$small/kobdrieft" check said said
 expect 'a program with no answer' 3 '' '' bare check empty said
 expect 'lib' 0 '' '*proving and building the library*kobdrieft: */target/lib has libkobdrieft.a and kobdrieft.h' kit lib
 expect 'bench' 0 'cargo run in harness' 'kobdrieft: building the benchmark*' kit bench
-expect 'four archives' 0 $'rt staticlib rules\nrt staticlib planner\nrt staticlib stop\nrt staticlib split' '' calls
+expect 'one archive' 0 'rt lib in kobdrieft_c' '' calls
 expect 'only target/ written' 0 "$before" '' files "$small"
 
 # root reads every file, so as nobody
