@@ -24,7 +24,7 @@ fn planned(reserve: u64, cluster: &[u8], out: &mut [u8]) -> Answer
     ensures { Answers reserve cluster.now (outcome (room_at reserve cluster.now) (steps_for (room_at reserve cluster.now))) out.old out.new result }
 {
     let mut allow = [0u8; rules::ALLOWED];
-    rules::allow_table(cluster, &mut allow);
+    rules::fill_allow_table(cluster, &mut allow);
     let mut pairs = [0u8; PAIRS];
     pair_table(cluster, &mut pairs);
     let trail = write_steps(reserve, cluster, &allow, &pairs, out);

@@ -76,8 +76,8 @@ fn apply(p: &[u8], table: &mut AllowTable)
     }
 }
 
-// The whole table, whatever was in it.
-pub fn allow_table(cluster: &[u8], table: &mut AllowTable)
+// Fills a lent table, whatever was in it. What a call keeps is filled so: a table that is returned takes its length of stack twice.
+pub fn fill_allow_table(cluster: &[u8], table: &mut AllowTable)
     requires { cluster_check cluster.now ≡ ClusterCheck.Whole }
     ensures { table.new ≡ allow_table (room_of cluster.now) }
 {
@@ -90,4 +90,14 @@ pub fn allow_table(cluster: &[u8], table: &mut AllowTable)
         at += p.len();
         left -= 1;
     }
+}
+
+// The whole table.
+pub fn allow_table(cluster: &[u8]) -> AllowTable
+    requires { cluster_check cluster.now ≡ ClusterCheck.Whole }
+    ensures { result ≡ allow_table (room_of cluster.now) }
+{
+    let mut table = [0u8; ALLOWED];
+    fill_allow_table(cluster, &mut table);
+    table
 }

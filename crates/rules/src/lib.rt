@@ -35,7 +35,7 @@ pub use step::loads;
 pub use tally::{Need, Tally, bears_vm, need_of};
 
 // Placements, destinations and the target.
-pub use allow::allow_table;
+pub use allow::{allow_table, fill_allow_table};
 pub use places::{current_places, entry, moved, place_at, target_places, wide};
 pub use wanted::{at_home, target_check};
 

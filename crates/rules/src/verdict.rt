@@ -8,7 +8,7 @@ ghost use Rattle.rules.specs.Rules.{target_check};
 ghost use Rattle.rules.specs.Verdict.{on_target, on_plan, plan_verdict, verdict_of, packed};
 ghost use Rattle.rules.specs.Inner.{Allows, step_of};
 
-use crate::allow::allow_table;
+use crate::allow::fill_allow_table;
 use crate::arrays::{ALLOWED, AllowTable};
 use crate::cost::plan_cost;
 use crate::faults::{Fault, StepCheck, TargetCheck, Verdict, fault_number, fault_step};
@@ -54,7 +54,7 @@ fn plan_verdict(reserve: u64, cluster: &[u8], plan: &[u8]) -> Verdict
         PlanCheck::Damaged(f) => Verdict::Refused(Fault::Plan(f)),
         PlanCheck::Whole => {
             let mut table = [0u8; ALLOWED];
-            allow_table(cluster, &mut table);
+            fill_allow_table(cluster, &mut table);
             steps_verdict(reserve, cluster, plan, &table)
         }
     }

@@ -2,7 +2,7 @@ use borrow.Author.Rules.{rules}
 use Rattle.records.proofs.Laws.Parts.{parts_add}
 use Rattle.records.proofs.Laws.Walk.{walk-within, walk-filled, walk-next}
 use Rattle.rules.proofs.Laws.Allow.{walk_from, allow-from, walk-below, allow-more, allow-end}
-use Rattle.rules.proofs.allow.allow_table.Goals as goal
+use Rattle.rules.proofs.allow.fill_allow_table.Goals as goal
 
 pub loop-left-init : goal.loop-left-init
 loop-left-init c = search (rules, walk_from, allow-from)
