@@ -42,11 +42,11 @@
  *
  * Threads. There is no state: any number of threads may call at once, each with an `out` of its own.
  *
- * Stack. Measured on full clusters, x86-64, as an older kit compiled them: `kobdrieft_check` took 34,575 bytes
- * (512 steps), `kobdrieft_stop` 34,655 (stopped in step 1, and in step 512), `kobdrieft_split` 34,671 (512 moves,
- * and 1,024, which it refuses), `kobdrieft_build` 122,559 (1 step) and 122,471 (500 steps): it does not grow with
- * the steps. Give a thread KOB_CHECK_STACK, KOB_STOP_STACK, KOB_SPLIT_STACK or KOB_BUILD_STACK, and what it needs
- * itself; the tests hold these limits.
+ * Stack. Measured on full clusters, x86-64: `kobdrieft_check` takes 31,159 bytes (512 steps), `kobdrieft_stop`
+ * 32,407 (stopped in step 1, and in step 512), `kobdrieft_split` 31,255 (512 moves, and 1,024, which it refuses),
+ * `kobdrieft_build` 107,367 (1 step, and 500 steps): it does not grow with the steps. Give a thread
+ * KOB_CHECK_STACK, KOB_STOP_STACK, KOB_SPLIT_STACK or KOB_BUILD_STACK, and what it needs itself; the tests hold
+ * these limits.
  *
  * No call allocates, does I/O, or calls anything but memcpy, memmove, memset and memcmp.
  */
