@@ -379,9 +379,9 @@ expect 'no cargo' 4 '' "kobdrieft: 'cargo' is not on the PATH: *" bare bench
 expect 'a file is looked at before a build' 3 '' 'kobdrieft: no such file: nothing' kit plan nothing
 expect 'nothing was built' 0 '' '' calls
 : >"$CALLS.break"
-expect 'a failed build' 4 '' '*about 3 minutes, once*rules NOT PROVED*kobdrieft: failed: rt run plan; the whole log is *' kit plan said
+expect 'a failed build' 4 '' '*3 to 5 minutes, once*rules NOT PROVED*kobdrieft: failed: rt run plan; the whole log is *' kit plan said
 rm -f "$CALLS.break" "$CALLS"
-expect 'first use' 0 'plan steps 0' "kobdrieft: proving and building the planner and the checker, about 3 minutes, once (log: $small/target/kobdrieft.log)" kit plan said
+expect 'first use' 0 'plan steps 0' "kobdrieft: proving and building the planner and the checker, 3 to 5 minutes, once (log: $small/target/kobdrieft.log)" kit plan said
 expect 'one build' 0 "$five" '' calls
 expect 'the log has it' 0 "$five" '' cat "$small/target/kobdrieft.log"
 expect 'second use' 0 'plan steps 0' '' kit plan said
