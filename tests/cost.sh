@@ -52,7 +52,7 @@ done
 shown 'the table' "$("$room" cost examples/a.cluster examples/a.plan | indented)"
 
 # ---- the proved code
-shown 'the loop' "$(sed -n '/^    let mut steps_cost = before;$/,/^    total$/p' crates/rules/src/cost.rt)"
+shown 'the loop' "$(sed -n '/^    let mut steps_cost = 0;$/,/^    total$/p' crates/rules/src/cost.rt)"
 same 'no lines, no locals' 0 "$(readelf -S target/bin/verdict | grep -c debug)"
 same 'no name of the loop' 0 "$(nm target/bin/verdict | grep -c cost)"
 

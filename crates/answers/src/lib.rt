@@ -4,93 +4,32 @@
 
 mod show;
 
-use files::Size;
-use planner::{Answer, Made};
-use std::rt::{Env, Files};
+use files::{Argument, Trouble};
+use planner::Answer;
+use std::rt::Files;
 
-// Whether the record at the buffer's front is in the file that an argument names, if there is that argument.
-fn saved<R: Env + Files, E: Print>(
+// The whole of a planning program: the reserve, and the file for the record if there is one. Of a record that cannot be written there are no lines.
+pub fn run<'a, R: Files + Input + Print>(
     rt: &R,
-    err: &E,
-    program: &[u8],
-    argument: usize,
-    plan: &[u8],
-) -> bool {
-    if !files::has_argument(rt, argument) {
-        return true;
-    }
-    files::save(rt, err, program, argument, files::record(plan))
-}
-
-// The lines of a plan or of blocked; none if its record cannot be written.
-fn made<R: Env + Files + Print, E: Print>(
-    rt: &R,
-    err: &E,
-    program: &[u8],
-    argument: usize,
-    word: &[u8],
-    cluster: &[u8],
-    plan: &[u8],
-    made: Made,
-) {
-    if saved(rt, err, program, argument, plan) {
-        show::made(rt, word, cluster, plan, made);
-    }
-}
-
-// The answer to a record; the steps that it speaks of go into the lent buffer.
-fn answer<R: Env + Files + Print, E: Print>(
-    rt: &R,
-    err: &E,
-    program: &[u8],
     reserve: u64,
-    argument: usize,
-    cluster: &[u8],
-    plan: &mut [u8],
-) {
-    let found = planner::answer_to(reserve, cluster, plan);
-    match found {
-        Answer::Plan(m) => made(rt, err, program, argument, b"plan", cluster, plan, m),
-        Answer::Blocked(m) => made(rt, err, program, argument, b"blocked", cluster, plan, m),
-        Answer::Refused(fault) => show::refused(rt, planner::build_number(fault)),
-    }
-}
-
-// The answer to the first bytes of a buffer.
-fn answer_front<R: Env + Files + Print, E: Print>(
-    rt: &R,
-    err: &E,
-    program: &[u8],
-    reserve: u64,
-    argument: usize,
-    buffer: &[u8; 65536],
-    n: usize,
-    plan: &mut [u8; planner::LEAST_BUFFER],
-) {
-    answer(
-        rt,
-        err,
-        program,
-        reserve,
-        argument,
-        files::front(buffer, n),
-        plan,
-    );
-}
-
-// The whole of a planning program: its name, the reserve, and the argument that may name a file.
-pub fn run<R: Env + Files + Input + Print, E: Print>(
-    rt: &R,
-    err: &E,
-    program: &[u8],
-    reserve: u64,
-    argument: usize,
-) {
+    file: Option<&'a Argument>,
+) -> Result<(), Trouble<'a>> {
     let mut buffer = [0u8; 65536];
-    let mut plan = [0u8; planner::LEAST_BUFFER];
-    let found = files::load_input(rt, err, program, &mut buffer, files::CLUSTER_ENOUGH);
-    let Size::Bytes(n) = found else {
-        return;
+    let mut out = [0u8; planner::LEAST_BUFFER];
+    let cluster = files::take_cluster(rt, &mut buffer)?;
+    let (word, made) = match planner::answer_to(reserve, cluster, &mut out) {
+        Answer::Plan(made) => ("plan", made),
+        Answer::Blocked(made) => ("blocked", made),
+        Answer::Refused(fault) => {
+            files::refused(rt, fault.number(), 0);
+            return Ok(());
+        }
     };
-    answer_front(rt, err, program, reserve, argument, &buffer, n, &mut plan);
+    let record = files::record(&out);
+    if let Some(file) = file {
+        files::save(rt, file, record)?;
+    }
+    show::counts(rt, word, made);
+    show::plan(rt, reserve, cluster, record);
+    Ok(())
 }

@@ -25,17 +25,17 @@ fn main(rt: HostRuntime) {
         &rt,
         &A,
         b"\x01\0\0\0\x0b\0\x01\0\x01\0\0",
-        b"A, VM 0 to node 0",
+        "A, VM 0 to node 0",
     );
     show::verdict(
         &rt,
         &A,
         b"\x02\0\0\0\x0c\0\x01\0\x01\0\0\0",
-        b"A, VM 0 from node 0 to node 0",
+        "A, VM 0 from node 0 to node 0",
     );
-    show::both(&rt, &nodes(64)[0..331], b"N = 64");
-    show::both(&rt, &nodes(65), b"N = 65");
-    show::answer(&rt, &A, 2562, b"A, a buffer of 2,562 bytes");
-    show::answer(&rt, &A, 2561, b"A, a buffer of 2,561 bytes");
-    show::answer(&rt, &A, 0, b"A, no buffer");
+    show::both(&rt, &nodes(64)[0..331], "N = 64");
+    show::both(&rt, &nodes(65), "N = 65");
+    show::answer(&rt, &A, 2562, "A, a buffer of 2,562 bytes");
+    show::answer(&rt, &A, 2561, "A, a buffer of 2,561 bytes");
+    show::answer(&rt, &A, 0, "A, no buffer");
 }

@@ -1,93 +1,49 @@
-// A line for each case: what the library says of it at reserve 0, and what it is.
+// A line for each case: what the library says of it at reserve 0, and what it is. What cannot be written is lost.
 use planner::{Answer, Made};
 use rules::Verdict;
 
-fn text<R: Print>(rt: &R, bytes: &[u8]) {
-    let _ = rt.write_all(bytes);
-}
-
-fn decimal<R: Print>(rt: &R, n: u64) {
-    let _ = rt.print(n);
-}
-
-fn line<R: Print>(rt: &R, label: &[u8], number: u64) {
-    decimal(rt, number);
-    text(rt, b" ");
-    text(rt, label);
-    text(rt, b"\n");
+// A refusal: its number, and the step that it is of or 0.
+fn refused<R: Print>(rt: &R, number: u64, step: usize, label: &str) {
+    let _ = println!(rt; "refused {number} step {step} {label}");
 }
 
 // The verdict on a plan for a cluster.
-pub fn verdict<R: Print>(rt: &R, cluster: &[u8], plan: &[u8], label: &[u8]) {
-    let found = rules::verdict_on(0, cluster, plan);
-    match found {
+pub fn verdict<R: Print>(rt: &R, cluster: &[u8], plan: &[u8], label: &str) {
+    match rules::verdict_on(0, cluster, plan) {
         Verdict::Accepted(cost) => {
-            text(rt, b"accepted cost ");
-            line(rt, label, cost);
+            let _ = println!(rt; "accepted cost {cost} {label}");
         }
-        Verdict::Refused(f) => {
-            text(rt, b"refused ");
-            decimal(rt, rules::fault_number(f));
-            text(rt, b" step ");
-            line(rt, label, rules::fault_step(f) as u64);
-        }
+        Verdict::Refused(fault) => refused(rt, fault.number(), fault.step(), label),
     }
 }
 
 // The counts of a plan or of blocked, behind that word.
-fn made<R: Print>(rt: &R, m: Made, label: &[u8]) {
-    text(rt, b" steps ");
-    decimal(rt, m.steps);
-    text(rt, b" moves ");
-    decimal(rt, m.moves);
-    text(rt, b" cost ");
-    line(rt, label, m.cost);
+fn counts<R: Print>(rt: &R, word: &str, made: Made, label: &str) {
+    let Made { steps, moves, cost } = made;
+    let _ = println!(rt; "{word} steps {steps} moves {moves} cost {cost} {label}");
 }
 
-// What the planner answers, with the first so many bytes lent to it.
-fn asked<R: Print>(rt: &R, cluster: &[u8], out: &mut [u8], size: usize, label: &[u8]) {
-    if size <= out.len() {
-        let found = planner::answer_to(0, cluster, &mut out[0..size]);
-        match found {
-            Answer::Plan(m) => {
-                text(rt, b"plan");
-                made(rt, m, label);
-            }
-            Answer::Blocked(m) => {
-                text(rt, b"blocked");
-                made(rt, m, label);
-            }
-            Answer::Refused(f) => {
-                text(rt, b"refused ");
-                decimal(rt, planner::build_number(f));
-                text(rt, b" step ");
-                line(rt, label, 0);
-            }
-        }
+// What the planner answers, with these bytes lent to it.
+fn asked<R: Print>(rt: &R, cluster: &[u8], out: &mut [u8], label: &str) {
+    match planner::answer_to(0, cluster, out) {
+        Answer::Plan(made) => counts(rt, "plan", made, label),
+        Answer::Blocked(made) => counts(rt, "blocked", made, label),
+        Answer::Refused(fault) => refused(rt, fault.number(), 0, label),
     }
-}
-
-// How many bytes at the end are as they were.
-fn rest(out: &[u8; 2600]) -> usize {
-    let mut n: usize = 2600;
-    while 0 < n {
-        if out[n - 1] != 165 {
-            return 2600 - n;
-        }
-        n -= 1;
-    }
-    2600
 }
 
 // The answer to a cluster with a buffer of so many bytes, at the front of 2,600; then how many of those stay.
-pub fn answer<R: Print>(rt: &R, cluster: &[u8], size: usize, label: &[u8]) {
+pub fn answer<R: Print>(rt: &R, cluster: &[u8], size: usize, label: &str) {
     let mut out = [165u8; 2600];
-    asked(rt, cluster, &mut out, size, label);
-    line(rt, b"of 2,600 bytes stay", rest(&out) as u64);
+    if size <= out.len() {
+        asked(rt, cluster, &mut out[..size], label);
+    }
+    let rest = out.iter().rev().take_while(|byte| **byte == 165).count();
+    let _ = println!(rt; "{rest} of 2,600 bytes stay");
 }
 
 // The verdict on a plan of no steps, and the answer.
-pub fn both<R: Print>(rt: &R, cluster: &[u8], label: &[u8]) {
+pub fn both<R: Print>(rt: &R, cluster: &[u8], label: &str) {
     verdict(rt, cluster, b"\x01\0\0\0\x07\0\0", label);
     answer(rt, cluster, planner::LEAST_BUFFER, label);
 }

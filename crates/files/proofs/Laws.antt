@@ -1,5 +1,4 @@
 -- The laws by topic.
-pub mod Front
+pub mod Digits
 pub mod Long
 pub mod Numbers
-pub mod Digits

@@ -2,6 +2,15 @@
 // an argument, the record of these moves also goes to the file that it names.
 #![tactic(auto)]
 
+use files::Argument;
+use std::array;
+
 fn main(rt: HostRuntime) {
-    answers::run(&rt, &rt.stderr(), b"plan", 0, 1);
+    let mut read = array::from_fn(|_| Argument::EMPTY);
+    let arguments = files::arguments(&rt, &mut read);
+    files::tell(
+        &rt.stderr(),
+        "plan",
+        answers::run(&rt, 0, arguments.first()),
+    );
 }

@@ -2,20 +2,21 @@
 // input, and prints what `plan` prints; with a second argument, the record of the moves also goes to the file that it names.
 #![tactic(auto)]
 
-use files::Number;
+use files::{Argument, Trouble};
+use std::array;
+use std::rt::Files;
+
+const USAGE: &str = "it takes a reserve, and a file for the plan record if it is to be written";
+
+fn run<'a, R: Files + Input + Print>(rt: &R, arguments: &'a [Argument]) -> Result<(), Trouble<'a>> {
+    let [reserve, rest @ ..] = arguments else {
+        return Err(Trouble::WrongUse(USAGE));
+    };
+    answers::run(rt, files::number("the reserve", reserve)?, rest.first())
+}
 
 fn main(rt: HostRuntime) {
-    let err = rt.stderr();
-    if !files::has_argument(&rt, 1) {
-        files::put(
-            &err,
-            b"plan_at: it takes a reserve, and a file for the plan record if it is to be written\n",
-        );
-        return;
-    }
-    let found = files::load_number(&rt, &err, b"plan_at", b"the reserve", 1);
-    let Number::Is(reserve) = found else {
-        return;
-    };
-    answers::run(&rt, &err, b"plan_at", reserve, 2);
+    let mut read = array::from_fn(|_| Argument::EMPTY);
+    let arguments = files::arguments(&rt, &mut read);
+    files::tell(&rt.stderr(), "plan_at", run(&rt, arguments));
 }

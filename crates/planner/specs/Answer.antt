@@ -1,15 +1,13 @@
 -- The planner's answer: a plan, or blocked, with what it wrote; or a refusal (01, "The planner" and refusals 1 to 10; 02, Job 5).
-use Rattle.std.specs.Prelude.{ℕ, ◌+◌, ◌*◌, ◌^◌, List, ◌++◌, length, drop, ltb}
+use Rattle.std.specs.Prelude.{ℕ, ◌+◌, ◌*◌, ◌^◌, List, ◌++◌, length, drop, ltb, Result, Ok, Err}
 use Rattle.records.specs.Base.{pick}
 use Rattle.records.specs.Room.{Room, most_reserve, room_at, cluster_check, cluster_number}
 use Rattle.records.specs.Plan.{Step, move_total}
-use Rattle.records.specs.declared.faults.ClusterCheck.{ClusterCheck}
 use Rattle.rules.specs.Moments.{current_of}
 use Rattle.rules.specs.Rules.{target_check}
 use Rattle.rules.specs.Cost.{cost_of}
 use Rattle.rules.specs.Verdict.{home, target_number}
 use Rattle.rules.specs.Promises.{after_all}
-use Rattle.rules.specs.declared.faults.TargetCheck.{TargetCheck}
 use Rattle.planner.specs.Picks.{picked}
 use Rattle.planner.specs.declared.answer.Made.{Made}
 use Rattle.planner.specs.declared.answer.BuildFault.{BuildFault}
@@ -37,20 +35,16 @@ least_buffer = 2562
 unfoldable pub answer_reserve : ℕ → Answer → Answer
 answer_reserve reserve rest = pick (ltb most_reserve reserve) (Refused Reserve) rest
 
-unfoldable pub answer_cluster : ClusterCheck → Answer → Answer
-answer_cluster ClusterCheck.Whole rest = rest
-answer_cluster (ClusterCheck.Damaged fault) rest = Refused (Cluster fault)
-
-unfoldable pub answer_target : TargetCheck → Answer → Answer
-answer_target TargetCheck.Good rest = rest
-answer_target (TargetCheck.Bad fault) rest = Refused (Target fault)
+unfoldable pub answer_check : {E : Type 0} → (E → BuildFault) → Result (Unit {0}) E → Answer → Answer
+answer_check kind (Ok done) rest = rest
+answer_check kind (Err fault) rest = Refused (kind fault)
 
 -- the answer to a cluster record at a reserve, and a buffer of a given size: 23, 1 to 7, 8 and 9, 10, then the outcome
 unfoldable pub answer_of : ℕ → List ℕ → ℕ → Answer
 answer_of reserve cluster size =
     answer_reserve reserve
-    (answer_cluster (cluster_check cluster)
-    (answer_target (target_check (room_at reserve cluster))
+    (answer_check Cluster (cluster_check cluster)
+    (answer_check Target (target_check (room_at reserve cluster))
     (pick (ltb size least_buffer) (Refused Buffer)
     (outcome (room_at reserve cluster) (steps_for (room_at reserve cluster))))))
 

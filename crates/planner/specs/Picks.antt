@@ -2,7 +2,8 @@
 use Rattle.std.specs.Prelude.{ℕ, zero, suc, ◌*◌, Bool, not, ◌&&◌, List, [], ◌∷◌, ◌++◌, ◌≡◌, length, ltb, eqb}
 use Rattle.records.specs.Base.{pick, sum_of}
 use Rattle.records.specs.Room.{Room, on_node}
-use Rattle.records.specs.Plan.{Move, Step, with_sources}
+use Rattle.records.specs.Plan.{Step, with_sources}
+use Rattle.records.specs.declared.plan.Move.{Move}
 use Rattle.records.specs.declared.plan.Source.TheVariants.{Unnamed, Named}
 use Rattle.rules.specs.Moments.{Placement, place_of, target_of, at_target, after}
 use Rattle.rules.specs.Orders.{some}

@@ -22,9 +22,9 @@ use Rattle.planner.specs.declared.answer.Answer.TheVariants.{Plan, Blocked, Refu
 -- ---- the answer
 
 -- an answer is the one defined, and the buffer the one that goes with it
-pub record Answers (reserve : ℕ) (cluster : List ℕ) (answer : Answer) (before after : List ℕ) (r : Answer) : Type 0 where
+pub record Answers (room : Room) (answer : Answer) (before after : List ℕ) (r : Answer) : Type 0 where
   pub is : r ≡ answer
-  pub buffer : after ≡ buffer_of answer (plan_bytes (steps_for (room_at reserve cluster))) before
+  pub buffer : after ≡ buffer_of answer (plan_bytes (steps_for room)) before
 
 -- the counts and the cost that a returned number tells
 abbrev pub told_made : ℕ → Made
@@ -52,30 +52,30 @@ pub record Stuck (room : Room) (places : Placement) : Type 0 where
 -- ---- the record written
 
 -- what holds of its steps, of a plan and of blocked alike
-pub record Written (reserve : ℕ) (cluster plan : List ℕ) (made : Made) : Type 0 where
+pub record Written (room : Room) (plan : List ℕ) (made : Made) : Type 0 where
   -- they are the ones that the planner picks
-  pub picks : Picks (room_at reserve cluster) (current_of (room_at reserve cluster)) (steps_of plan)
+  pub picks : Picks room (current_of room) (steps_of plan)
   -- none has fault 15 or 27, and every whole run, whatever its orders, obeys the rules at each begin, moves nobody before its turn, and reaches
   -- one placement
-  pub named : named_all (room_at reserve cluster) (current_of (room_at reserve cluster)) (steps_of plan) ≡ true
-  pub well-sourced : sourced_all (current_of (room_at reserve cluster)) (steps_of plan) ≡ true
-  pub obeys : (last : Placement) (run : Run (room_at reserve cluster) (current_of (room_at reserve cluster)) (steps_of plan) last) → EachBeginOfRun (Obeys (room_at reserve cluster)) run
-  pub in-turn : (last : Placement) (run : Run (room_at reserve cluster) (current_of (room_at reserve cluster)) (steps_of plan) last) → InTurn (room_at reserve cluster) run
-  pub reaches : (last : Placement) → Run (room_at reserve cluster) (current_of (room_at reserve cluster)) (steps_of plan) last → last ≡ after_all (current_of (room_at reserve cluster)) (steps_of plan)
+  pub named : named_all room (current_of room) (steps_of plan) ≡ true
+  pub well-sourced : sourced_all (current_of room) (steps_of plan) ≡ true
+  pub obeys : (last : Placement) (run : Run room (current_of room) (steps_of plan) last) → EachBeginOfRun (Obeys room) run
+  pub in-turn : (last : Placement) (run : Run room (current_of room) (steps_of plan) last) → InTurn room run
+  pub reaches : (last : Placement) → Run room (current_of room) (steps_of plan) last → last ≡ after_all (current_of room) (steps_of plan)
   -- in no run does a node that is within what it has go past it, or one over its memory take a VM, or one over its CPU take an active one, or do
   -- mates that are apart meet
-  pub auditor : StaysWithin (room_at reserve cluster) (current_of (room_at reserve cluster)) (steps_of plan)
-  pub apart : StaysApart (room_at reserve cluster) (current_of (room_at reserve cluster)) (steps_of plan)
+  pub auditor : StaysWithin room (current_of room) (steps_of plan)
+  pub apart : StaysApart room (current_of room) (steps_of plan)
   -- nor is a VM taken down that is wanted on a node (02, Job 2)
-  pub running : KeepsRunning (room_at reserve cluster) (current_of (room_at reserve cluster)) (steps_of plan)
+  pub running : KeepsRunning room (current_of room) (steps_of plan)
   -- nor is one moved while a VM that comes before it is off its target or moves too (02, Job 13)
-  pub waits : WaitsItsTurn (room_at reserve cluster) (current_of (room_at reserve cluster)) (steps_of plan)
+  pub waits : WaitsItsTurn room (current_of room) (steps_of plan)
   -- how many steps there can be, by the number of VMs out of place at the current nodes
-  pub none : away_count (room_at reserve cluster) (current_of (room_at reserve cluster)) ≡ 0 → steps_of plan ≡ []
-  pub short : 0 < away_count (room_at reserve cluster) (current_of (room_at reserve cluster)) → length (steps_of plan) + 1 ≤ 2 * away_count (room_at reserve cluster) (current_of (room_at reserve cluster))
+  pub none : away_count room (current_of room) ≡ 0 → steps_of plan ≡ []
+  pub short : 0 < away_count room (current_of room) → length (steps_of plan) + 1 ≤ 2 * away_count room (current_of room)
   -- the record names the sources: each move that of its VM when the step starts, in every run (02, Job 7)
   pub version : version_of plan ≡ written_version
-  pub sources : NamesPlaces (room_at reserve cluster) (current_of (room_at reserve cluster)) (steps_of plan)
+  pub sources : NamesPlaces room (current_of room) (steps_of plan)
   -- of no steps the header is still written (02, Job 8)
   pub header : steps_of plan ≡ [] → plan ≡ header_bytes written_version 7 0
   -- the record fits the least buffer that is taken
@@ -83,18 +83,18 @@ pub record Written (reserve : ℕ) (cluster plan : List ℕ) (made : Made) : Typ
   -- the counts and the cost given are those of the record
   pub steps : made.steps ≡ length (steps_of plan)
   pub moves : made.moves ≡ move_total (steps_of plan)
-  pub cost : made.cost ≡ cost_of (room_at reserve cluster) (steps_of plan)
+  pub cost : made.cost ≡ cost_of room (steps_of plan)
 
 -- of a plan: every whole run obeys the rules, moves nobody before its turn and ends with every VM on its target, which is what `check` is exact
 -- about; and the checker accepts it at the cost given
 pub record Planned (reserve : ℕ) (cluster plan : List ℕ) (made : Made) : Type 0 where
-  pub written : Written reserve cluster plan made
+  pub written : Written (room_at reserve cluster) plan made
   pub runs : EveryRun (room_at reserve cluster) (current_of (room_at reserve cluster)) (steps_of plan)
   pub accepted : verdict_of reserve cluster plan ≡ Verdict.Accepted made.cost
 
 -- of blocked: the checker refuses it with 19, step 0
 pub record Halted (reserve : ℕ) (cluster plan : List ℕ) (made : Made) : Type 0 where
-  pub written : Written reserve cluster plan made
+  pub written : Written (room_at reserve cluster) plan made
   pub refused : verdict_of reserve cluster plan ≡ Verdict.Refused Fault.OffTarget
 
 -- ---- the promises

@@ -1,13 +1,14 @@
 // What the planner answers, and its packing into one number.
 ghost use Rattle.std.specs.Prelude.{◌≡◌, ◌<◌, ◌^◌};
 ghost use Rattle.planner.specs.Answer.{build_number, packed_made, packed_answer};
-ghost use Rattle.planner.specs.Inner.{Packs};
+ghost use Rattle.planner.specs.Inner.{Packs, read_refusal};
+ghost use Rattle.planner.specs.declared.answer.BuildFault.TheVariants.{Target};
 
-use records::ClusterFault;
+use records::{ClusterFault, ReadFault};
 use rules::{TargetFault, packing};
 
 // The record written: its steps, its moves and its cost.
-#[derive(Clone, Copy)]
+#[derive(Clone, Copy, PartialEq, Eq)]
 pub struct Made {
     pub steps: u64,
     pub moves: u64,
@@ -15,7 +16,7 @@ pub struct Made {
 }
 
 // A reserve that is too large, a fault of the cluster record or of its target, or a buffer that is too short.
-#[derive(Clone, Copy)]
+#[derive(Clone, Copy, PartialEq, Eq)]
 pub enum BuildFault {
     Reserve,
     Cluster(ClusterFault),
@@ -23,40 +24,66 @@ pub enum BuildFault {
     Buffer,
 }
 
-#[derive(Clone, Copy)]
+impl From<ReadFault> for BuildFault {
+    ghost from_gives = { λ fault refusal. refusal ≡ read_refusal fault };
+
+    fn from(fault: ReadFault) -> BuildFault {
+        match fault {
+            ReadFault::Reserve => BuildFault::Reserve,
+            ReadFault::Record(damage) => BuildFault::Cluster(damage),
+        }
+    }
+}
+
+impl From<TargetFault> for BuildFault {
+    ghost from_gives = { λ fault refusal. refusal ≡ Target fault };
+
+    fn from(fault: TargetFault) -> BuildFault {
+        BuildFault::Target(fault)
+    }
+}
+
+// An enum of its own, not a Result: what is promised gives the number and the values of each case.
+#[derive(Clone, Copy, PartialEq, Eq)]
 pub enum Answer {
     Plan(Made),
     Blocked(Made),
     Refused(BuildFault),
 }
 
-// The documents' number of a refusal.
-pub fn build_number(f: BuildFault) -> u64
-    ensures { (result ≡ build_number f) × (result < 256) }
-{
-    match f {
-        BuildFault::Reserve => 23,
-        BuildFault::Cluster(c) => records::cluster_number(c),
-        BuildFault::Target(t) => rules::target_number(t),
-        BuildFault::Buffer => 10,
+impl BuildFault {
+    // Its number (docs/REFUSALS.md).
+    pub fn number(self) -> u64
+        ensures number { result ≡ build_number self }
+        ensures below { result < 256 }
+    {
+        match self {
+            BuildFault::Reserve => 23,
+            BuildFault::Cluster(fault) => fault.number(),
+            BuildFault::Target(fault) => fault.number(),
+            BuildFault::Buffer => 10,
+        }
     }
 }
 
-fn pack_made(m: Made) -> u64
-    requires { (m.steps < 2 ^ 9) × (m.moves < 2 ^ 9) × (m.cost < 2 ^ 43) }
-    ensures { (result ≡ packed_made m) × (result < 2 ^ 62) }
-{
-    m.steps * packing::STEPS + m.moves * packing::MOVES + m.cost
+impl Made {
+    fn packed(self) -> u64
+        requires { (self.steps < 2 ^ 9) × (self.moves < 2 ^ 9) × (self.cost < 2 ^ 43) }
+        ensures packed { result ≡ packed_made self }
+        ensures below { result < 2 ^ 62 }
+    {
+        self.steps * packing::STEPS + self.moves * packing::MOVES + self.cost
+    }
 }
 
-// An answer as one number.
-pub fn pack(a: Answer) -> u64
-    requires { Packs a }
-    ensures { result ≡ packed_answer a }
+// An answer as one number. Each call packs its own answer; what they share is `rules::packing`.
+pub fn pack(answer: Answer) -> u64
+    requires { Packs answer }
+    ensures { result ≡ packed_answer answer }
 {
-    match a {
-        Answer::Plan(m) => pack_made(m),
-        Answer::Blocked(m) => packing::BLOCKED + pack_made(m),
-        Answer::Refused(f) => packing::REFUSED + build_number(f) * packing::NUMBER,
+    match answer {
+        Answer::Plan(made) => made.packed(),
+        Answer::Blocked(made) => packing::BLOCKED + made.packed(),
+        Answer::Refused(fault) => packing::REFUSED + fault.number() * packing::NUMBER,
     }
 }

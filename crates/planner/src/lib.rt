@@ -2,6 +2,7 @@
 #![tactic(auto)]
 
 mod answer;
+mod board;
 mod direct;
 mod join;
 mod mates;
@@ -13,7 +14,7 @@ mod waits;
 ghost use Rattle.planner.specs.Promises.{Built};
 
 // What the planner answers.
-pub use answer::{Answer, BuildFault, Made, build_number};
+pub use answer::{Answer, BuildFault, Made};
 pub use plan::{LEAST_BUFFER, answer_to};
 
 // Plans for a cluster, with so many percent of each node kept free, on any number and any two byte strings: writes the steps made, of a plan

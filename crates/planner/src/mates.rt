@@ -1,29 +1,25 @@
 // Which VMs are named by one spread, decided once for a call: a mark for each pair, 256 for each VM. And whether a VM meets a mate.
-ghost use Rattle.std.specs.Prelude.{◌≡◌, true, ◌||◌, ◌<◌, get_or, eqb};
-ghost use Rattle.records.specs.Room.{constraint_of, filled, room_of, vm_count, cluster_check};
-ghost use Rattle.records.specs.declared.faults.ClusterCheck.{ClusterCheck};
+ghost use Rattle.std.specs.Prelude.{◌≡◌, ◌||◌, ◌<◌, length, get_or, eqb};
+ghost use Rattle.records.specs.Room.{IsSound};
 ghost use Rattle.rules.specs.Inner.{busy_from};
 ghost use Rattle.rules.specs.Orders.{meets_mate};
 ghost use Rattle.planner.specs.Inner.{pair_row, pair_rows, paired, Blank, Pairs};
 
-use records::Kind;
-use rules::{Destinations, Placement, VMS};
+use crate::board::Board;
+use records::{Cluster, Constraint, Kind};
+use rules::{Destinations, VMS};
 
 // A mark for each pair of VMs.
 pub const PAIRS: usize = 65536;
 
-pub type PairTable = [u8; PAIRS];
+pub type PairTable = [bool; PAIRS];
 
 // Marks VM v with each VM of a list.
-fn pair_row(vms: &[u8], v: usize, table: &mut PairTable)
-    requires { v < 256 }
+fn pair_row(vms: &[u8], v: u8, table: &mut PairTable)
     ensures { table.new ≡ pair_row table.old v vms.now }
 {
-    let mut i: usize = 0;
-    while i < vms.len() {
-        let w = rules::entry(vms, i);
-        table[v * VMS + w] = 1;
-        i += 1;
+    for w in vms {
+        table[usize::from(v) * VMS + usize::from(*w)] = true;
     }
 }
 
@@ -31,77 +27,51 @@ fn pair_row(vms: &[u8], v: usize, table: &mut PairTable)
 fn pair_rows(vms: &[u8], table: &mut PairTable)
     ensures { table.new ≡ pair_rows table.old vms.now vms.now }
 {
-    let mut i: usize = 0;
-    while i < vms.len() {
-        pair_row(vms, rules::entry(vms, i), table);
-        i += 1;
+    for v in vms {
+        pair_row(vms, *v, table);
     }
 }
 
-// Marks the pairs of one constraint: only a spread has any.
-fn pair_part(p: &[u8], table: &mut PairTable)
-    requires { filled p.now ≡ true }
-    ensures { table.new ≡ paired table.old (constraint_of p.now) }
+// Marks the pairs of a constraint: only a spread has any.
+fn pair_part(constraint: &Constraint<'_>, table: &mut PairTable)
+    ensures { table.new ≡ paired table.old constraint.now }
 {
-    let kind = records::kind_at(p);
-    match kind {
-        Kind::Spread => pair_rows(records::bound_vms(p), table),
-        Kind::Ban => {}
-        Kind::Fence => {}
-        Kind::Latency => {}
-        Kind::Before => {}
+    if let Kind::Spread = constraint.kind() {
+        pair_rows(constraint.vms(), table);
     }
 }
 
 // Marks all pairs, in a table that has no mark.
-pub fn pair_table(cluster: &[u8], table: &mut PairTable)
-    requires { (cluster_check cluster.now ≡ ClusterCheck.Whole) × Blank table.old }
-    ensures { Pairs cluster.now table.new }
+pub fn pair_table(cluster: &Cluster<'_>, table: &mut PairTable)
+    requires { Blank table.old }
+    ensures pairs { Pairs cluster.now table.new }
+    ensures sound { IsSound cluster.now }
 {
-    let mut at = records::first_constraint(cluster);
-    let mut left = records::constraint_count(cluster);
-    while 0 < left {
-        let p = records::part(cluster, at);
-        pair_part(p, table);
-        at += p.len();
-        left -= 1;
+    for constraint in cluster.constraints() {
+        pair_part(&constraint, table);
     }
 }
 
-// Whether VM w counts on node d: it is on its way there, or there.
-fn counts(places: &Placement, dests: &Destinations, w: usize, d: usize) -> bool
-    requires { w < 256 }
-    ensures { result ≡ (eqb (get_or places.now w 0) d || eqb (get_or dests.now w 0) d) }
-{
-    if rules::place_at(dests, w) == d {
-        return true;
+impl Board<'_> {
+    // Whether VM w counts on node d: it is on its way there, or there.
+    fn counts(&self, dests: &Destinations, w: usize, d: usize) -> bool
+        requires { w < 256 }
+        ensures { result ≡ (eqb (get_or self.now.places.now w 0) d || eqb (get_or dests.now w 0) d) }
+    {
+        usize::from(dests[w]) == d || self.place(w) == d
     }
-    rules::place_at(places, w) == d
-}
 
-// Whether a mate of VM v counts on node d, with every move of the array of destinations running.
-pub fn meets(
-    cluster: &[u8],
-    pairs: &PairTable,
-    places: &Placement,
-    dests: &Destinations,
-    v: usize,
-    d: usize,
-) -> bool
-    requires { (cluster_check cluster.now ≡ ClusterCheck.Whole) × Pairs cluster.now pairs.now × (v < vm_count cluster.now) × (d < 64) }
-    ensures { result ≡ meets_mate (room_of cluster.now) (busy_from places.now dests.now 0 (vm_count cluster.now)) v d }
-{
-    let n = records::vm_count(cluster);
-    let mut w: usize = 0;
-    while w < n {
-        if pairs[v * VMS + w] != 0 {
-            if w != v {
-                if counts(places, dests, w, d) {
-                    return true;
-                }
+    // Whether a mate of VM v counts on node d, with every move of the array of destinations running.
+    pub fn meets(&self, dests: &Destinations, v: usize, d: usize) -> bool
+        requires vm { v < length self.now.cluster.now.vms }
+        requires node { d < 64 }
+        ensures { result ≡ meets_mate self.now.cluster.now (busy_from self.now.places.now dests.now 0 (length self.now.cluster.now.vms)) v d }
+    {
+        for w in 0..self.cluster.vm_count() {
+            if self.pairs[v * VMS + w] && w != v && self.counts(dests, w, d) {
+                return true;
             }
         }
-        w += 1;
+        false
     }
-    false
 }

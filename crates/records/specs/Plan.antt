@@ -1,23 +1,21 @@
 -- The plan record (01, "The two records" and refusals 11 to 14): the steps that bytes stand for, what makes them damaged, and the
 -- record that steps are written as.
-use Rattle.std.specs.Prelude.{ℕ, zero, suc, ◌+◌, ◌-◌, ◌*◌, Bool, not, ◌&&◌, List, [], ◌∷◌, ◌++◌, map, ◌≡◌, length, get_or, take, drop, ltb, leb, eqb}
+use Rattle.std.specs.Prelude.{ℕ, zero, suc, ◌+◌, ◌-◌, ◌*◌, Bool, not, ◌&&◌, List, [], ◌∷◌, ◌++◌, map, ◌≡◌, length, get_or, take, drop, ltb, leb, eqb, Result, Ok, Err}
+use Rattle.std.specs.Result.{result_and}
 use Rattle.records.specs.Base.{pick, all, sum_of}
 use Rattle.records.specs.Bytes.{byte_at, be16, be32, bytes16, bytes32, version_of, known_version, AreBytes}
 use Rattle.records.specs.Room.{rows}
+use Rattle.records.specs.declared.plan.Move as row
 use Rattle.records.specs.declared.plan.Source.{Source}
 use Rattle.records.specs.declared.plan.Source.TheVariants.{Unnamed, Named}
 use Rattle.records.specs.declared.faults.PlanFault.{PlanFault}
 use Rattle.records.specs.declared.faults.PlanFault.TheVariants.{TooShort, Version, Length, Shape}
-use Rattle.records.specs.declared.faults.PlanCheck.{PlanCheck}
-use Rattle.records.specs.declared.faults.PlanCheck.TheVariants.{Whole, Damaged}
 
 -- ---- what a record stands for
 
 -- a move: a VM, the source that it names or none (02, Job 7), and the place it goes to, a node or `nowhere`
-pub record Move : Type 0 where
-  pub vm : ℕ
-  pub source : Source
-  pub to : ℕ
+abbrev pub Move : Type 0
+Move = row.Move
 
 -- a step: the moves that run side by side
 abbrev pub Step : Type 0
@@ -98,24 +96,28 @@ unfoldable pub shaped : List Step → Bool
 shaped steps = leb (length steps) most_steps && (all sized steps && leb (move_total steps) 1024)
 
 -- the first fault in checking order, 11 to 14; 0 bytes are a whole record (02, Job 8)
-abbrev pub refuse_plan : Bool → PlanFault → PlanCheck → PlanCheck
-refuse_plan test fault rest = pick test (Damaged fault) rest
+abbrev pub refuse_plan : Bool → PlanFault → Result (Unit {0}) PlanFault → Result (Unit {0}) PlanFault
+refuse_plan test fault rest = pick test (Err fault) rest
 
-unfoldable pub plan_check : List ℕ → PlanCheck
+unfoldable pub plan_check : List ℕ → Result (Unit {0}) PlanFault
 plan_check s =
-    pick (eqb (length s) 0) Whole
+    pick (eqb (length s) 0) (Ok tt)
     (refuse_plan (ltb (length s) 7) TooShort
     (refuse_plan (not (known_version (version_of s))) Version
     (refuse_plan (not (eqb (be32 s 1) (length s))) Length
     (refuse_plan (not (shaped (steps_of s) && eqb (steps_end s 7 (step_count s)) (length s))) Shape
-    Whole))))
+    (Ok tt)))))
+
+-- what reading a plan record gives: its steps, or that fault
+abbrev pub plan_read : List ℕ → Result (List Step) PlanFault
+plan_read s = result_and (plan_check s) (Ok (steps_of s))
 
 -- the longest undamaged record: 512 steps and 1,024 moves of three bytes (`Laws.Steps.plan-most`)
 abbrev pub longest_plan : ℕ
 longest_plan = 4103
 
 -- what reading a plan record answers: that fault, and for those who compute with the record that its elements are bytes
-pub record PlanRead (s : List ℕ) (r : PlanCheck) : Type 0 where
+pub record PlanRead (s : List ℕ) (r : Result (Unit {0}) PlanFault) : Type 0 where
   pub is : r ≡ plan_check s
   pub bytes : AreBytes s
 

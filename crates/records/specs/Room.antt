@@ -1,11 +1,11 @@
 -- The cluster record (01, "The two records" and refusals 1 to 7): the room that bytes stand for, and what makes them damaged.
-use Rattle.std.specs.Prelude.{ℕ, zero, suc, ◌+◌, ◌-◌, ◌*◌, ◌/◌, Bool, true, false, not, ◌&&◌, ◌||◌, List, [], ◌∷◌, map, ◌≡◌, length, get_or, set, take, drop, ltb, leb, eqb}
+use Rattle.std.specs.Prelude.{ℕ, zero, suc, ◌+◌, ◌-◌, ◌*◌, ◌/◌, ◌^◌, ◌≤◌, ◌<◌, Bool, true, false, not, ◌&&◌, ◌||◌, List, [], ◌∷◌, map, ◌≡◌, length, get_or, set, take, drop, ltb, leb, eqb, Result, Ok, Err}
 use Rattle.records.specs.Base.{pick, all}
 use Rattle.records.specs.Bytes.{byte_at, be16, be24, be32, version_of, known_version, AreBytes}
 use Rattle.records.specs.declared.faults.ClusterFault.{ClusterFault}
 use Rattle.records.specs.declared.faults.ClusterFault.TheVariants.{TooShort, Version, Length, Counts, Fill, VmRow, Constraint as BadConstraint}
-use Rattle.records.specs.declared.faults.ClusterCheck.{ClusterCheck}
-use Rattle.records.specs.declared.faults.ClusterCheck.TheVariants.{Whole, Damaged}
+use Rattle.records.specs.declared.faults.ReadFault.{ReadFault}
+use Rattle.records.specs.declared.faults.ReadFault.TheVariants.{Reserve, Record}
 use Rattle.records.specs.declared.constraints.Kind.{Kind}
 use Rattle.records.specs.declared.constraints.Kind.TheVariants.{Ban, Fence, Spread, Latency, Before}
 
@@ -275,6 +275,10 @@ updated s places = updated_to s places (vm_count s)
 
 -- ---- what makes a record damaged
 
+-- 3: the stated length is the record's, and not too large
+abbrev pub length_ok : List ℕ → Bool
+length_ok s = eqb (be32 s 1) (length s) && leb (be32 s 1) 65535
+
 -- 4: each count in its range
 unfoldable pub counts_ok : List ℕ → Bool
 counts_ok s = leb 1 (node_count s) && (leb (node_count s) 64 && (leb (vm_count s) 256 && leb (constraint_count s) 128))
@@ -320,6 +324,22 @@ constraint_ok v n (spread vms) = list_ok v vms
 constraint_ok v n (latency vms groups) = list_ok v vms && (leb (length groups) 64 && (all (list_ok n) groups && apart groups))
 constraint_ok v n (before first second) = ltb first v && (ltb second v && not (eqb first second))
 
+-- what a room that was read has: counts in their ranges, VM rows that are sound, and constraints in order and range
+pub record IsSound (room : Room) : Type 0 where
+  pub nodes-least : 1 ≤ length room.nodes
+  pub nodes-most : length room.nodes ≤ 64
+  pub vms-most : length room.vms ≤ 256
+  pub constraints-most : length room.constraints ≤ 128
+  pub memory-least : (v : ℕ) → v < length room.vms → 1 ≤ (vm_of room v).memory
+  pub currents : (v : ℕ) → v < length room.vms → place_ok true (length room.nodes) (vm_of room v).current ≡ true
+  pub targets : (v : ℕ) → v < length room.vms → place_ok true (length room.nodes) (vm_of room v).target ≡ true
+  pub well-formed : all (constraint_ok (length room.vms) (length room.nodes)) room.constraints ≡ true
+
+-- what a VM needs is less than what three bytes, and two, can say
+pub record HasAmounts (room : Room) : Type 0 where
+  pub memory-most : (v : ℕ) → (vm_of room v).memory < 2 ^ 24
+  pub cpu-most : (v : ℕ) → (vm_of room v).cpu < 2 ^ 16
+
 -- a part has a kind, a known one, and lists, or two VMs, that fill it
 unfoldable pub filled : List ℕ → Bool
 filled p = leb 1 (kind_at p) && (leb (kind_at p) 5 && eqb (lists_end p) (length p))
@@ -328,24 +348,38 @@ unfoldable pub well_formed : ℕ → ℕ → List ℕ → Bool
 well_formed v n p = filled p && constraint_ok v n (constraint_of p)
 
 -- the first fault in checking order, 1 to 7
-abbrev pub refuse_cluster : Bool → ClusterFault → ClusterCheck → ClusterCheck
-refuse_cluster test fault rest = pick test (Damaged fault) rest
+abbrev pub refuse_cluster : Bool → ClusterFault → Result (Unit {0}) ClusterFault → Result (Unit {0}) ClusterFault
+refuse_cluster test fault rest = pick test (Err fault) rest
 
-unfoldable pub cluster_check : List ℕ → ClusterCheck
+unfoldable pub cluster_check : List ℕ → Result (Unit {0}) ClusterFault
 cluster_check s =
     refuse_cluster (ltb (length s) 11) TooShort
     (refuse_cluster (not (known_version (version_of s))) Version
-    (refuse_cluster (not (eqb (be32 s 1) (length s)) || ltb 65535 (be32 s 1)) Length
+    (refuse_cluster (not (length_ok s)) Length
     (refuse_cluster (not (counts_ok s)) Counts
     (refuse_cluster (not (eqb (parts_end s (constraints_start s) (constraint_count s)) (length s))) Fill
     (refuse_cluster (not (all (vm_ok (knows_nowhere s) (node_count s)) (room_of s).vms)) VmRow
     (refuse_cluster (not (all (well_formed (vm_count s) (node_count s)) (parts_of s))) BadConstraint
-    Whole))))))
+    (Ok tt)))))))
 
 -- what reading a cluster record answers: that fault, and for those who compute with the record that its elements are bytes
-pub record ClusterRead (s : List ℕ) (r : ClusterCheck) : Type 0 where
+pub record ClusterRead (s : List ℕ) (r : Result (Unit {0}) ClusterFault) : Type 0 where
   pub is : r ≡ cluster_check s
   pub bytes : AreBytes s
+
+-- what a check lets through, or why it does not
+abbrev pub read_as : {A : Type 0} → A → Result (Unit {0}) ClusterFault → Result A ReadFault
+read_as value (Ok done) = Ok value
+read_as value (Err fault) = Err (Record fault)
+
+-- reading a record at a reserve: the reserve is tested first, then the record
+unfoldable pub cluster_read : ℕ → List ℕ → Result Room ReadFault
+cluster_read reserve s = pick (ltb most_reserve reserve) (Err Reserve) (read_as (room_at reserve s) (cluster_check s))
+
+-- each VM of the room that a record stands for is at a place that the record's version knows, and is wanted at one: in version 1 both are nodes
+pub record KnownPlaces (s : List ℕ) (room : Room) : Type 0 where
+  pub currents : (v : ℕ) → v < length room.vms → place_ok (knows_nowhere s) (length room.nodes) (vm_of room v).current ≡ true
+  pub targets : (v : ℕ) → v < length room.vms → place_ok (knows_nowhere s) (length room.nodes) (vm_of room v).target ≡ true
 
 -- 01's number of each
 abbrev pub cluster_number : ClusterFault → ℕ

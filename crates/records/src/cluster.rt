@@ -1,87 +1,90 @@
 // Whether a cluster record is whole: refusals 1 to 7, in that order.
-ghost use Rattle.std.specs.Prelude.{◌≡◌, ◌≤◌, ◌<◌, ◌^◌, eqb, length};
+ghost use Rattle.std.specs.Prelude.{◌≡◌, ◌≤◌, eqb, length};
 ghost use Rattle.records.specs.Base.{all};
-ghost use Rattle.records.specs.Room.{node_count, vm_count, constraint_count, vms_start, constraints_start, room_of, parts_of, parts_end, knows_nowhere, vm_ok, well_formed, cluster_check, ClusterRead};
+ghost use Rattle.records.specs.Room.{node_count, vm_count, constraint_count, constraints_start, room_of, parts_of, parts_end, knows_nowhere, vm_ok, well_formed, cluster_check, ClusterRead};
 
-use crate::bytes::byte;
-use crate::faults::{ClusterCheck, ClusterFault};
-use crate::header::{
-    constraints, counts_within, knows_nowhere, length_wrong, nodes, version_known, vms,
-};
+use crate::constraints::constraint_sound;
+use crate::faults::ClusterFault;
+use crate::header::{Header, version_known};
 use crate::rows::rows_sound;
-use crate::walk::{constraints_fill, constraints_sound};
+use crate::walk::{Parts, constraints_fill};
 
-// Where the VM rows start.
-pub fn vms_start(s: &[u8]) -> usize
-    requires { 11 ≤ length s.now }
-    ensures { (result ≡ vms_start s.now) × (result < 2 ^ 20) }
-{
-    11 + nodes(s) * 5
+impl<'a> Header<'a> {
+    // 5: whether rows and constraints fill the record.
+    fn filled(&self) -> bool
+        ensures { result ≡ eqb (parts_end self.now (constraints_start self.now) (constraint_count self.now)) (length self.now) }
+    {
+        constraints_fill(self.bytes, self.constraints_start(), self.constraints())
+    }
+
+    // The constraints of a record that they fill, part by part.
+    pub fn parts(&self) -> Parts<'a>
+        requires { parts_end self.now (constraints_start self.now) (constraint_count self.now) ≡ length self.now }
+        ensures { result ≡ parts_of self.now }
+    {
+        Parts {
+            bytes: self.bytes,
+            at: self.constraints_start(),
+            left: self.constraints(),
+        }
+    }
+
+    // 6: whether the VM rows are sound.
+    fn vms_sound(&self) -> bool
+        requires { constraints_start self.now ≤ length self.now }
+        ensures { result ≡ all (vm_ok (knows_nowhere self.now) (node_count self.now)) (room_of self.now).vms }
+    {
+        rows_sound(
+            self.bytes,
+            self.vms_start(),
+            self.vms(),
+            self.nodes(),
+            self.knows_nowhere(),
+        )
+    }
+
+    // 7: whether the constraints are well formed.
+    fn parts_sound(&self) -> bool
+        requires { (parts_end self.now (constraints_start self.now) (constraint_count self.now) ≡ length self.now) × (node_count self.now ≤ 64) }
+        ensures { result ≡ all (well_formed (vm_count self.now) (node_count self.now)) (parts_of self.now) }
+    {
+        let vms = self.vms();
+        let nodes = self.nodes();
+        for part in self.parts() {
+            if !constraint_sound(part, vms, nodes) {
+                return false;
+            }
+        }
+        true
+    }
 }
 
-// Where the constraints start.
-pub fn constraints_start(s: &[u8]) -> usize
-    requires { 11 ≤ length s.now }
-    ensures { (result ≡ constraints_start s.now) × (result < 2 ^ 21) }
-{
-    vms_start(s) + vms(s) * 7
-}
-
-// 5: whether rows and constraints fill the record.
-fn filled(s: &[u8]) -> bool
-    requires { 11 ≤ length s.now }
-    ensures { result ≡ eqb (parts_end s.now (constraints_start s.now) (constraint_count s.now)) (length s.now) }
-{
-    constraints_fill(s, constraints_start(s), constraints(s))
-}
-
-// 6: whether the VM rows are sound.
-fn vms_sound(s: &[u8]) -> bool
-    requires { (11 ≤ length s.now) × (constraints_start s.now ≤ length s.now) }
-    ensures { result ≡ all (vm_ok (knows_nowhere s.now) (node_count s.now)) (room_of s.now).vms }
-{
-    rows_sound(s, vms_start(s), vms(s), nodes(s), knows_nowhere(s))
-}
-
-// 7: whether the constraints are well formed.
-fn parts_sound(s: &[u8]) -> bool
-    requires { (11 ≤ length s.now) × (parts_end s.now (constraints_start s.now) (constraint_count s.now) ≡ length s.now) × (node_count s.now ≤ 64) }
-    ensures { result ≡ all (well_formed (vm_count s.now) (node_count s.now)) (parts_of s.now) }
-{
-    constraints_sound(s, constraints_start(s), constraints(s), vms(s), nodes(s))
-}
-
-// The first fault in checking order.
-fn first_fault(s: &[u8]) -> ClusterCheck
-    ensures { result ≡ cluster_check s.now }
-{
-    if s.len() < 11 {
-        return ClusterCheck::Damaged(ClusterFault::TooShort);
-    }
-    if !version_known(byte(s, 0)) {
-        return ClusterCheck::Damaged(ClusterFault::Version);
-    }
-    if length_wrong(s) {
-        return ClusterCheck::Damaged(ClusterFault::Length);
-    }
-    if !counts_within(s) {
-        return ClusterCheck::Damaged(ClusterFault::Counts);
-    }
-    if !filled(s) {
-        return ClusterCheck::Damaged(ClusterFault::Fill);
-    }
-    if !vms_sound(s) {
-        return ClusterCheck::Damaged(ClusterFault::VmRow);
-    }
-    if !parts_sound(s) {
-        return ClusterCheck::Damaged(ClusterFault::Constraint);
-    }
-    ClusterCheck::Whole
-}
-
-// Whether a cluster record is whole, or its first fault.
-pub fn cluster_check(s: &[u8]) -> ClusterCheck
+// Whether a cluster record is whole, or its first fault in checking order.
+#[tactic(auto, using(crate::proofs::Laws::Cluster::read_as_is), unfolding(crate::specs::Room::cluster_check))]
+pub fn cluster_check(s: &[u8]) -> Result<(), ClusterFault>
     ensures { ClusterRead s.now result }
 {
-    first_fault(s)
+    if s.len() < 11 {
+        return Err(ClusterFault::TooShort);
+    }
+    if !version_known(s[0]) {
+        return Err(ClusterFault::Version);
+    }
+    let header = Header { bytes: s };
+    if !header.length_right() {
+        return Err(ClusterFault::Length);
+    }
+    if !header.counts_within() {
+        return Err(ClusterFault::Counts);
+    }
+    if !header.filled() {
+        return Err(ClusterFault::Fill);
+    }
+    if !header.vms_sound() {
+        return Err(ClusterFault::VmRow);
+    }
+    if !header.parts_sound() {
+        return Err(ClusterFault::Constraint);
+    }
+    Ok(())
 }

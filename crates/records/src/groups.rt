@@ -2,78 +2,55 @@
 ghost use Rattle.std.specs.Prelude.{◌≡◌, ◌+◌, ◌≤◌, length};
 ghost use Rattle.records.specs.Inner.{Below, unseen_in, marked_in, unmarked, Grouped, groups_read};
 
-use crate::bytes::count8;
-use crate::lists::{Listed, node_list};
+use crate::lists::node_list;
 
 // Whether none of the nodes is marked.
-fn unseen(nodes: &[u8], seen: &[u8; 64]) -> bool
+fn unseen(nodes: &[u8], seen: &[bool; 64]) -> bool
     requires { Below 64 nodes.now }
     ensures { result ≡ unseen_in seen.now nodes.now }
 {
-    let mut i: usize = 0;
-    while i < nodes.len() {
-        let d = count8(nodes, i);
-        if seen[d] != 0 {
+    for node in nodes {
+        if seen[usize::from(*node)] {
             return false;
         }
-        i += 1;
     }
     true
 }
 
 // Marks the nodes.
-fn mark(nodes: &[u8], seen: &mut [u8; 64])
+fn mark(nodes: &[u8], seen: &mut [bool; 64])
     requires { Below 64 nodes.now }
     ensures { seen.new ≡ marked_in seen.old nodes.now }
 {
-    let mut i: usize = 0;
-    while i < nodes.len() {
-        let d = count8(nodes, i);
-        seen[d] = 1;
-        i += 1;
+    for node in nodes {
+        seen[usize::from(*node)] = true;
     }
 }
 
-// One group: a node list of unmarked nodes, which are marked.
-fn group(p: &[u8], at: usize, limit: usize, seen: &mut [u8; 64]) -> Listed
+// One group: a node list of unmarked nodes, which are marked; and where it ends.
+fn group(p: &[u8], at: usize, limit: usize, seen: &mut [bool; 64]) -> Option<usize>
     requires { (at ≤ length p.now) × (limit ≤ 64) }
     ensures { Grouped limit seen.old p.now at result seen.new }
 {
-    let found = node_list(p, at, limit);
-    match found {
-        Listed::Bad => Listed::Bad,
-        Listed::Ends(end) => {
-            let first = at + 1;
-            let nodes = &p[first..end];
-            if unseen(nodes, seen) {
-                mark(nodes, seen);
-                Listed::Ends(end)
-            } else {
-                Listed::Bad
-            }
-        }
+    let end = node_list(p, at, limit)?;
+    let first = at + 1;
+    let nodes = &p[first..end];
+    if !unseen(nodes, seen) {
+        return None;
     }
+    mark(nodes, seen);
+    Some(end)
 }
 
-// So many groups.
-pub fn groups(p: &[u8], start: usize, count: usize, limit: usize) -> Listed
+// So many groups, and where the last one ends.
+pub fn groups(p: &[u8], start: usize, count: usize, limit: usize) -> Option<usize>
     requires { (start ≤ length p.now) × (limit ≤ 64) }
     ensures { result ≡ groups_read limit p.now unmarked start count }
 {
-    let mut seen = [0u8; 64];
+    let mut seen = [false; 64];
     let mut at = start;
-    let mut left = count;
-    while 0 < left {
-        let found = group(p, at, limit, &mut seen);
-        match found {
-            Listed::Bad => {
-                return Listed::Bad;
-            }
-            Listed::Ends(end) => {
-                at = end;
-            }
-        }
-        left -= 1;
+    for _ in 0..count {
+        at = group(p, at, limit, &mut seen)?;
     }
-    Listed::Ends(at)
+    Some(at)
 }

@@ -1,77 +1,88 @@
-// Headers: the version of either record, and the length and the counts of a cluster record.
-ghost use Rattle.std.specs.Prelude.{◌≡◌, not, ◌||◌, ◌≤◌, ◌<◌, ◌^◌, length, ltb, eqb};
-ghost use Rattle.records.specs.Bytes.{be32, known_version};
-ghost use Rattle.records.specs.Room.{node_count, vm_count, constraint_count, knows_nowhere, counts_ok};
+// Headers: the version of either record, and the header of a cluster record with its length and counts.
+#![tactic(auto, unfolding(crate::specs::Bytes::known_version, crate::specs::Room::knows_nowhere, crate::specs::Room::counts_ok))]
 
-use crate::bytes::{be32, byte, count16};
+ghost use Rattle.std.specs.Prelude.{List, ℕ, ◌≡◌, ◌≤◌, ◌<◌, ◌^◌, length};
+ghost use Rattle.records.specs.Bytes.{known_version};
+ghost use Rattle.records.specs.Room.{node_count, vm_count, constraint_count, vms_start, constraints_start, knows_nowhere, length_ok, counts_ok};
+
+use crate::bytes::{be32, count16};
+use std::marker::Model;
 
 // 2 and 12: whether a version is one of the two.
 pub fn version_known(version: u8) -> bool
     ensures { result ≡ known_version version }
 {
-    if version == 1 {
-        return true;
+    version == 1 || version == 2
+}
+
+// A cluster record that is long enough for its header.
+#[derive(Drop)]
+pub struct Header<'a> {
+    pub(crate) bytes: &'a [u8],
+}
+
+impl<'a> Model for Header<'a> {
+    ghost Value = { List ℕ };
+
+    ghost view = { λ h. h.bytes.now };
+
+    ghost invariant = { λ h. 11 ≤ length h.bytes.now };
+}
+
+impl Header<'_> {
+    // Whether VMs of the record may be on no node.
+    pub fn knows_nowhere(&self) -> bool
+        ensures { result ≡ knows_nowhere self.now }
+    {
+        self.bytes[0] == 2
     }
-    version == 2
-}
 
-// Whether VMs of a cluster record may be on no node.
-pub fn knows_nowhere(s: &[u8]) -> bool
-    requires { 11 ≤ length s.now }
-    ensures { result ≡ knows_nowhere s.now }
-{
-    byte(s, 0) == 2
-}
-
-pub fn nodes(s: &[u8]) -> usize
-    requires { 11 ≤ length s.now }
-    ensures { (result ≡ node_count s.now) × (result < 2 ^ 16) }
-{
-    count16(s, 5)
-}
-
-pub fn vms(s: &[u8]) -> usize
-    requires { 11 ≤ length s.now }
-    ensures { (result ≡ vm_count s.now) × (result < 2 ^ 16) }
-{
-    count16(s, 7)
-}
-
-pub fn constraints(s: &[u8]) -> usize
-    requires { 11 ≤ length s.now }
-    ensures { (result ≡ constraint_count s.now) × (result < 2 ^ 16) }
-{
-    count16(s, 9)
-}
-
-// Whether the stated length is not that of the bytes lent, or is too large. All four bytes count.
-pub fn length_wrong(s: &[u8]) -> bool
-    requires { 11 ≤ length s.now }
-    ensures { result ≡ (not (eqb (be32 s.now 1) (length s.now)) || ltb 65535 (be32 s.now 1)) }
-{
-    let stated = be32(s, 1) as usize;
-    if stated != s.len() {
-        return true;
+    pub fn nodes(&self) -> usize
+        ensures { (result ≡ node_count self.now) × (result < 2 ^ 16) }
+    {
+        count16(self.bytes, 5)
     }
-    65535 < stated
-}
 
-// Whether the three counts are in their ranges.
-pub fn counts_within(s: &[u8]) -> bool
-    requires { 11 ≤ length s.now }
-    ensures { result ≡ counts_ok s.now }
-{
-    let n = nodes(s);
-    if n < 1 {
-        return false;
+    pub fn vms(&self) -> usize
+        ensures { (result ≡ vm_count self.now) × (result < 2 ^ 16) }
+    {
+        count16(self.bytes, 7)
     }
-    if 64 < n {
-        return false;
+
+    pub fn constraints(&self) -> usize
+        ensures { (result ≡ constraint_count self.now) × (result < 2 ^ 16) }
+    {
+        count16(self.bytes, 9)
     }
-    let v = vms(s);
-    if 256 < v {
-        return false;
+
+    // Where the VM rows start.
+    pub fn vms_start(&self) -> usize
+        ensures { (result ≡ vms_start self.now) × (result < 2 ^ 20) }
+    {
+        11 + self.nodes() * 5
     }
-    let c = constraints(s);
-    c <= 128
+
+    // Where the constraints start.
+    pub fn constraints_start(&self) -> usize
+        ensures { (result ≡ constraints_start self.now) × (result < 2 ^ 21) }
+    {
+        self.vms_start() + self.vms() * 7
+    }
+
+    // Whether the stated length is that of the bytes lent, and not too large. All four bytes count.
+    pub fn length_right(&self) -> bool
+        ensures { result ≡ length_ok self.now }
+    {
+        // `usize` has no From<u32>.
+        let stated = be32(self.bytes, 1) as usize;
+        stated == self.bytes.len() && stated <= 65535
+    }
+
+    // Whether the three counts are in their ranges.
+    pub fn counts_within(&self) -> bool
+        ensures { result ≡ counts_ok self.now }
+    {
+        let nodes = self.nodes();
+        1 <= nodes && nodes <= 64 && self.vms() <= 256 && self.constraints() <= 128
+    }
 }

@@ -12,31 +12,27 @@ mod lists;
 mod plan;
 mod room;
 mod rows;
+mod steps;
 mod walk;
 mod write;
 
 // What is wrong with a record, and its number.
-pub use faults::{ClusterCheck, ClusterFault, PlanCheck, PlanFault, cluster_number, plan_number};
+pub use faults::{ClusterFault, PlanFault, ReadFault};
 
 // A cluster record.
 pub use cluster::cluster_check;
-pub use room::{
-    MOST_RESERVE, NOWHERE, constraint_count, current_at, first_constraint, node_count, node_cpu,
-    node_memory, vm_count, vm_cpu, vm_current, vm_memory, vm_target,
-};
+pub use room::{Cluster, MOST_RESERVE, NOWHERE};
 
 // A constraint of it.
-pub use constraints::{
-    Kind, bound_vms, first_group, first_vm, group_count, group_nodes, kind_at, named_nodes,
-    second_vm,
-};
-pub use walk::part;
+pub use constraints::{Constraint, Groups, Kind};
+pub use walk::Constraints;
 
 // A plan record.
 pub use plan::{
-    LONGEST_PLAN, Source, kept_version, move_count, move_source, move_to, move_vm, plan_check,
-    stated_length, step_count, step_end,
+    FIRST_STEP, LONGEST_PLAN, MOST_MOVES, MOST_STEP_MOVES, MOST_STEPS, Move, NAMING_VERSION,
+    Source, kept_version, plan_check, stated_length,
 };
+pub use steps::{Moves, Plan, Step, Steps};
 
 // Writing one.
-pub use write::{append_move, append_single, finish_plan, finish_record, finish_step};
+pub use write::{append_move, append_single, finish_record, finish_step};

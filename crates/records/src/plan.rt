@@ -1,27 +1,46 @@
-// A plan record: whether it is whole, refusals 11 to 14, and its steps and moves, read in place.
-ghost use Rattle.std.specs.Prelude.{◌≡◌, ◌&&◌, ◌+◌, ◌*◌, ◌≤◌, ◌<◌, ◌^◌, length, eqb};
-ghost use Rattle.records.specs.Bytes.{be32, version_of};
-ghost use Rattle.records.specs.Plan.{step_count, move_count, move_of, move_width, names_sources, step_at, step_end, steps_of, steps_end, shaped, plan_check, kept_version, PlanRead};
-ghost use Rattle.records.specs.Inner.{steps_ok};
-ghost use Rattle.records.specs.declared.faults.PlanCheck.{PlanCheck};
+// A plan record: whether it is whole, refusals 11 to 14, and its moves, read in place.
+#![tactic(auto, using(crate::proofs::Laws::Steps::checking), unfolding(crate::specs::Plan::names_sources, crate::specs::Plan::move_width, crate::specs::Plan::source_at, crate::specs::Plan::move_at, crate::specs::Plan::kept_version))]
 
-use crate::bytes::{be32, byte, count16};
-use crate::faults::{PlanCheck, PlanFault};
+ghost use Rattle.std.specs.Prelude.{◌≡◌, ◌&&◌, ◌+◌, ◌≤◌, ◌<◌, length, eqb};
+ghost use Rattle.records.specs.Bytes.{be32, version_of};
+ghost use Rattle.records.specs.Plan.{step_count, move_at, move_width, names_sources, source_at, steps_of, steps_end, shaped, kept_version, PlanRead};
+ghost use Rattle.records.specs.Inner.{steps_ok};
+
+use crate::bytes::{be32, count16};
+use crate::faults::PlanFault;
 use crate::header::version_known;
 
-// The source that a move names. Version 1 names none.
-#[derive(Clone, Copy)]
+// The source that a move names. Version 1 names none. Not an Option: the format and its definitions say `Unnamed` and `Named`, and None would read
+// as no move.
+#[derive(Clone, Copy, PartialEq, Eq)]
 pub enum Source {
     Unnamed,
     Named(u8),
 }
 
+// A move: a VM, the source that it names or none, and the place it goes to, a node or `NOWHERE`.
+#[derive(Clone, Copy, PartialEq, Eq)]
+pub struct Move {
+    pub vm: u8,
+    pub source: Source,
+    pub to: u8,
+}
+
 // The version whose moves name their sources; how many bytes a move has in the other and in this one.
-pub const NAMING: u8 = 2;
+pub const NAMING_VERSION: u8 = 2;
 
 pub const PLAIN_WIDTH: usize = 2;
 
 pub const NAMING_WIDTH: usize = 3;
+
+// Where the first step starts; the most steps of a plan, moves of a step and moves of a plan.
+pub const FIRST_STEP: usize = 7;
+
+pub const MOST_STEPS: usize = 512;
+
+pub const MOST_STEP_MOVES: usize = 256;
+
+pub const MOST_MOVES: usize = 1024;
 
 // The longest undamaged record: 7 + 512 × 2 + 1,024 × 3.
 pub const LONGEST_PLAN: usize = 4103;
@@ -31,18 +50,18 @@ fn names_sources(s: &[u8]) -> bool
     requires { 0 < length s.now }
     ensures { result ≡ names_sources (version_of s.now) }
 {
-    byte(s, 0) == NAMING
+    s[0] == NAMING_VERSION
 }
 
-// How many bytes n moves of a record take.
-fn moves_size(s: &[u8], n: usize) -> usize
-    requires { (0 < length s.now) × (n < 2 ^ 62) }
-    ensures { (result ≡ n * move_width s.now) × (result ≤ n * 3) }
+// How many bytes a move of a record takes.
+pub fn move_width(s: &[u8]) -> usize
+    requires { 0 < length s.now }
+    ensures { (result ≡ move_width s.now) × (2 ≤ result) × (result ≤ 3) }
 {
     if names_sources(s) {
-        n * NAMING_WIDTH
+        NAMING_WIDTH
     } else {
-        n * PLAIN_WIDTH
+        PLAIN_WIDTH
     }
 }
 
@@ -51,32 +70,21 @@ fn steps_sound(s: &[u8], count: usize) -> bool
     requires { (7 ≤ length s.now) × (count ≤ 512) }
     ensures { result ≡ steps_ok s.now 7 count 0 }
 {
-    let mut at: usize = 7;
-    let mut left = count;
+    let width = move_width(s);
+    let mut at: usize = FIRST_STEP;
     let mut moves: usize = 0;
-    while 0 < left {
+    for _ in 0..count {
         if s.len() - at < 2 {
             return false;
         }
         let n = count16(s, at);
-        if n < 1 {
+        if n < 1 || MOST_STEP_MOVES < n || s.len() - at - 2 < n * width {
             return false;
         }
-        if 256 < n {
-            return false;
-        }
-        let size = moves_size(s, n);
-        if s.len() - at - 2 < size {
-            return false;
-        }
-        at = at + 2 + size;
+        at += 2 + n * width;
         moves += n;
-        left -= 1;
     }
-    if 1024 < moves {
-        return false;
-    }
-    at == s.len()
+    moves <= MOST_MOVES && at == s.len()
 }
 
 // 14: whether counts are in their ranges and the steps fill the record.
@@ -85,40 +93,29 @@ fn shape_sound(s: &[u8]) -> bool
     ensures { result ≡ (shaped (steps_of s.now) && eqb (steps_end s.now 7 (step_count s.now)) (length s.now)) }
 {
     let count = count16(s, 5);
-    if 512 < count {
-        return false;
-    }
-    steps_sound(s, count)
+    count <= MOST_STEPS && steps_sound(s, count)
 }
 
-// The first fault in checking order. 0 bytes are a plan of no steps.
-fn first_fault(s: &[u8]) -> PlanCheck
-    ensures { result ≡ plan_check s.now }
-{
-    if s.len() == 0 {
-        return PlanCheck::Whole;
-    }
-    if s.len() < 7 {
-        return PlanCheck::Damaged(PlanFault::TooShort);
-    }
-    if !version_known(byte(s, 0)) {
-        return PlanCheck::Damaged(PlanFault::Version);
-    }
-    let stated = be32(s, 1) as usize;
-    if stated != s.len() {
-        return PlanCheck::Damaged(PlanFault::Length);
-    }
-    if !shape_sound(s) {
-        return PlanCheck::Damaged(PlanFault::Shape);
-    }
-    PlanCheck::Whole
-}
-
-// Whether a plan record is whole, or its first fault.
-pub fn plan_check(s: &[u8]) -> PlanCheck
+// Whether a plan record is whole, or its first fault in checking order. 0 bytes are a plan of no steps.
+pub fn plan_check(s: &[u8]) -> Result<(), PlanFault>
     ensures { PlanRead s.now result }
 {
-    first_fault(s)
+    if s.is_empty() {
+        return Ok(());
+    }
+    if s.len() < FIRST_STEP {
+        return Err(PlanFault::TooShort);
+    }
+    if !version_known(s[0]) {
+        return Err(PlanFault::Version);
+    }
+    if stated_length(s) != s.len() {
+        return Err(PlanFault::Length);
+    }
+    if !shape_sound(s) {
+        return Err(PlanFault::Shape);
+    }
+    Ok(())
 }
 
 // How long a record says it is.
@@ -129,69 +126,37 @@ pub fn stated_length(s: &[u8]) -> usize
     be32(s, 1) as usize
 }
 
-// How many steps an undamaged record has: none if it has 0 bytes. The first starts behind the header, at 7.
-pub fn step_count(s: &[u8]) -> usize
-    requires { plan_check s.now ≡ PlanCheck.Whole }
-    ensures { (result ≡ step_count s.now) × (result ≤ 512) }
-{
-    if 0 < s.len() { count16(s, 5) } else { 0 }
-}
-
 // The version in which an undamaged record is written anew: its own, and the one that names sources if it has 0 bytes.
 pub fn kept_version(s: &[u8]) -> u8
     ensures { result ≡ kept_version s.now }
 {
-    if 0 < s.len() { byte(s, 0) } else { NAMING }
+    match s.first() {
+        Some(version) => *version,
+        None => NAMING_VERSION,
+    }
 }
 
-// How many moves the step at a place has.
-pub fn move_count(s: &[u8], at: usize) -> usize
-    requires { step_end s.now at ≤ length s.now }
-    ensures { (result ≡ move_count s.now at) × (result < 2 ^ 16) }
-{
-    count16(s, at)
-}
-
-// Where the step at a place ends, and the next one starts.
-pub fn step_end(s: &[u8], at: usize) -> usize
-    requires { step_end s.now at ≤ length s.now }
-    ensures { result ≡ step_end s.now at }
-{
-    at + 2 + moves_size(s, count16(s, at))
-}
-
-// Where move i of the step at a place stands.
-fn move_place(s: &[u8], at: usize, i: usize) -> usize
-    requires { (step_end s.now at ≤ length s.now) × (i < move_count s.now at) }
-    ensures { (result ≡ at + 2 + i * move_width s.now) × (result + move_width s.now ≤ length s.now) × (result + 2 ≤ length s.now) }
-{
-    at + 2 + moves_size(s, i)
-}
-
-// The VM of move i of the step at a place.
-pub fn move_vm(s: &[u8], at: usize, i: usize) -> u8
-    requires { (step_end s.now at ≤ length s.now) × (i < move_count s.now at) }
-    ensures { result ≡ (move_of (step_at s.now at) i).vm }
-{
-    byte(s, move_place(s, at, i))
-}
-
-// Its destination.
-pub fn move_to(s: &[u8], at: usize, i: usize) -> u8
-    requires { (step_end s.now at ≤ length s.now) × (i < move_count s.now at) }
-    ensures { result ≡ (move_of (step_at s.now at) i).to }
-{
-    byte(s, move_place(s, at, i) + moves_size(s, 1) - 1)
-}
-
-// The source that it names.
-pub fn move_source(s: &[u8], at: usize, i: usize) -> Source
-    requires { (step_end s.now at ≤ length s.now) × (i < move_count s.now at) }
-    ensures { result ≡ (move_of (step_at s.now at) i).source }
+// The source at a place, if the moves of a record name theirs.
+fn source_at(s: &[u8], at: usize) -> Source
+    requires { at < length s.now }
+    ensures { result ≡ source_at s.now at }
 {
     if names_sources(s) {
-        Source::Named(byte(s, move_place(s, at, i) + 1))
+        Source::Named(s[at])
     } else {
         Source::Unnamed
+    }
+}
+
+// The move at a place.
+pub fn move_at(s: &[u8], place: usize) -> Move
+    requires { place + move_width s.now ≤ length s.now }
+    ensures { result ≡ move_at s.now place }
+{
+    let width = move_width(s);
+    Move {
+        vm: s[place],
+        source: source_at(s, place + 1),
+        to: s[place + width - 1],
     }
 }

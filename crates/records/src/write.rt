@@ -1,30 +1,24 @@
 // Writing a plan record into a lent buffer: moves, then their step's count, or a step of one move; then the header. Nothing else in the
 // buffer changes.
-ghost use Rattle.std.specs.Prelude.{[], ◌∷◌, ◌≡◌, ◌+◌, ◌*◌, ◌≤◌, ◌<◌, ◌^◌, length};
-ghost use Rattle.records.specs.Bytes.{bytes16, bytes32};
-ghost use Rattle.records.specs.Plan.{written_version, written_width, move_bytes, step_bytes, header_bytes, written};
+#![tactic(auto, using(crate::proofs::Laws::Written::header_written), unfolding(crate::specs::Bytes::bytes16, crate::specs::Bytes::bytes32, crate::specs::Plan::move_bytes, crate::specs::Plan::source_bytes))]
+
+ghost use Rattle.std.specs.Prelude.{[], ◌∷◌, ◌≡◌, ◌+◌, ◌*◌, ◌≤◌, length};
+ghost use Rattle.records.specs.Bytes.{bytes16};
+ghost use Rattle.records.specs.Plan.{written_width, move_bytes, step_bytes, header_bytes, written};
 ghost use Rattle.records.specs.declared.plan.Source.{Source};
 
-use crate::plan::{NAMING, NAMING_WIDTH, PLAIN_WIDTH, Source};
+use crate::plan::{Move, NAMING_VERSION, NAMING_WIDTH, Source};
 
-// Puts a number as two bytes.
-fn put16(out: &mut [u8], at: usize, x: usize)
-    requires { at + 2 ≤ length out.old }
-    ensures { out.new ≡ written out.old at (bytes16 x) }
+// Puts bytes at a place, and tells where they end.
+#[tactic(auto, using(std::proofs::lemmas::Slice::overwrites), unfolding(crate::specs::Plan::written))]
+fn put(out: &mut [u8], at: usize, bytes: &[u8]) -> usize
+    requires { at + length bytes.now ≤ length out.old }
+    ensures end { result ≡ at + length bytes.now }
+    ensures out { out.new ≡ written out.old at bytes.now }
 {
-    out[at] = (x / 256 % 256) as u8;
-    out[at + 1] = (x % 256) as u8;
-}
-
-// Puts a number as four bytes.
-fn put32(out: &mut [u8], at: usize, x: usize)
-    requires { at + 4 ≤ length out.old }
-    ensures { out.new ≡ written out.old at (bytes32 x) }
-{
-    out[at] = (x / 16777216 % 256) as u8;
-    out[at + 1] = (x / 65536 % 256) as u8;
-    out[at + 2] = (x / 256 % 256) as u8;
-    out[at + 3] = (x % 256) as u8;
+    let end = at + bytes.len();
+    out[at..end].copy_from_slice(bytes);
+    end
 }
 
 // Puts move n of the step that starts at a place, with the source it names.
@@ -32,10 +26,7 @@ pub fn append_move(out: &mut [u8], at: usize, n: usize, vm: u8, source: u8, to: 
     requires { at + 2 + n * written_width + written_width ≤ length out.old }
     ensures { out.new ≡ written out.old (at + 2 + n * written_width) (move_bytes (record { vm = vm; source = Source.Named source; to = to })) }
 {
-    let place = at + 2 + n * NAMING_WIDTH;
-    out[place] = vm;
-    out[place + 1] = source;
-    out[place + 2] = to;
+    put(out, at + 2 + n * NAMING_WIDTH, &[vm, source, to]);
 }
 
 // Puts the count of the step that starts at a place, and tells where the next one starts.
@@ -43,41 +34,18 @@ pub fn finish_step(out: &mut [u8], at: usize, n: usize) -> usize
     requires { at + 2 + n * written_width ≤ length out.old }
     ensures { (result ≡ at + 2 + n * written_width) × (out.new ≡ written out.old at (bytes16 n)) }
 {
-    put16(out, at, n);
-    at + 2 + n * NAMING_WIDTH
+    put(out, at, &n.to_be_bytes()[6..]) + n * NAMING_WIDTH
 }
 
-// Puts a step of one move at a place, the move naming no source, and tells where the next step starts.
-fn append_plain(out: &mut [u8], at: usize, vm: u8, to: u8) -> usize
-    requires { at + 4 ≤ length out.old }
-    ensures { (result ≡ at + 4) × (out.new ≡ written out.old at (step_bytes (record { vm = vm; source = Source.Unnamed; to = to } ∷ []))) }
-{
-    put16(out, at, 1);
-    out[at + 2] = vm;
-    out[at + 3] = to;
-    at + 2 + PLAIN_WIDTH
-}
-
-// The same of a move that names its source.
-fn append_naming(out: &mut [u8], at: usize, vm: u8, source: u8, to: u8) -> usize
+// Puts a step of one move at a place, and tells where the next step starts.
+pub fn append_single(out: &mut [u8], at: usize, step_move: Move) -> usize
     requires { at + 5 ≤ length out.old }
-    ensures { (result ≡ at + 5) × (out.new ≡ written out.old at (step_bytes (record { vm = vm; source = Source.Named source; to = to } ∷ []))) }
+    ensures { (result ≡ at + length (step_bytes (step_move ∷ []))) × (out.new ≡ written out.old at (step_bytes (step_move ∷ []))) }
 {
-    put16(out, at, 1);
-    out[at + 2] = vm;
-    out[at + 3] = source;
-    out[at + 4] = to;
-    at + 2 + NAMING_WIDTH
-}
-
-// The same of any move.
-pub fn append_single(out: &mut [u8], at: usize, vm: u8, source: Source, to: u8) -> usize
-    requires { at + 5 ≤ length out.old }
-    ensures { (result ≡ at + length (step_bytes (record { vm = vm; source = source; to = to } ∷ []))) × (out.new ≡ written out.old at (step_bytes (record { vm = vm; source = source; to = to } ∷ []))) }
-{
-    match source {
-        Source::Unnamed => append_plain(out, at, vm, to),
-        Source::Named(from) => append_naming(out, at, vm, from, to),
+    let place = put(out, at, &1u16.to_be_bytes());
+    match step_move.source {
+        Source::Unnamed => put(out, place, &[step_move.vm, step_move.to]),
+        Source::Named(source) => put(out, place, &[step_move.vm, source, step_move.to]),
     }
 }
 
@@ -86,15 +54,7 @@ pub fn finish_record(out: &mut [u8], version: u8, end: usize, steps: usize)
     requires { 7 ≤ length out.old }
     ensures { out.new ≡ written out.old 0 (header_bytes version end steps) }
 {
-    put16(out, 5, steps);
-    put32(out, 1, end);
-    out[0] = version;
-}
-
-// The same of the version that names sources.
-pub fn finish_plan(out: &mut [u8], end: usize, steps: usize)
-    requires { 7 ≤ length out.old }
-    ensures { out.new ≡ written out.old 0 (header_bytes written_version end steps) }
-{
-    finish_record(out, NAMING, end, steps);
+    let size_place = put(out, 0, &[version]);
+    let count_place = put(out, size_place, &end.to_be_bytes()[4..]);
+    put(out, count_place, &steps.to_be_bytes()[6..]);
 }

@@ -20,7 +20,6 @@ pub mod Named
 pub mod Loads
 pub mod Fit
 pub mod Allow
-pub mod Walks
 pub mod Mates
 pub mod Meet
 pub mod Bound

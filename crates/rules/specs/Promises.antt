@@ -1,12 +1,10 @@
 -- What `check` promises of its verdict, over every order and every whole run (the demands on checking, and 01, "When a step is sound").
-use Rattle.std.specs.Prelude.{ℕ, suc, ◌<◌, ◌≤◌, ◌^◌, Bool, true, false, ◌&&◌, List, [], ◌∷◌, map, ◌↔◌, ◌⊎◌, ◌≡◌, length, get_or, take}
+use Rattle.std.specs.Prelude.{ℕ, suc, ◌<◌, ◌≤◌, ◌^◌, Bool, true, false, ◌&&◌, List, [], ◌∷◌, map, ◌↔◌, ◌⊎◌, ◌≡◌, length, get_or, take, Ok}
 use Rattle.records.specs.Bytes.{version_of}
 use Rattle.records.specs.Room.{Room, node_of, vm_of, nowhere, most_reserve, room_at, cluster_check}
 use Rattle.records.specs.Plan.{Move, Step, with_sources, move_of, steps_of, most_steps, plan_check, header_bytes, record_bytes, kept_version}
 use Rattle.records.specs.declared.plan.Source.{Source}
 use Rattle.records.specs.declared.plan.Source.TheVariants.{Named}
-use Rattle.records.specs.declared.faults.ClusterCheck.{ClusterCheck}
-use Rattle.records.specs.declared.faults.PlanCheck.{PlanCheck}
 use Rattle.rules.specs.Moments.{Placement, place_of, current_of, target_of, after, Moment, tally_at, first_moment, at_rest, settled}
 use Rattle.rules.specs.Orders.{Order, Run, fits, mates, meets_mate, stands_on, Apart, MayBegin, EachBegin, SomeBegin, EachBeginOfRun, EachStepOfRun, EachMomentOfRun, EachChangeOfRun, runs_at, rests_on}
 use Rattle.rules.specs.Rules.{allowed, target_check, named, sourced, permitted, in_turn, waits_for, sound_step}
@@ -14,7 +12,6 @@ use Rattle.rules.specs.Cost.{cost_of}
 use Rattle.rules.specs.Verdict.{home, verdict_of, fault_number, fault_step, packed}
 use Rattle.rules.specs.Returned.{told_number, told_step, told_cost, SaysGood, SaysRefused}
 use Rattle.rules.specs.Divides.{Divides}
-use Rattle.rules.specs.declared.faults.TargetCheck.{TargetCheck}
 use Rattle.rules.specs.declared.faults.Verdict.{Verdict}
 
 -- the placement behind the last of the steps
@@ -40,13 +37,13 @@ sound_all room places (step ∷ steps) = sound_step room places step && sound_al
 -- an accepted cluster, at a reserve: none of the faults 23 and 1 to 9 (01, "The planner"; 02, Job 5)
 pub record AcceptedCluster (reserve : ℕ) (cluster : List ℕ) : Type 0 where
   pub reserve-taken : reserve ≤ most_reserve
-  pub cluster-whole : cluster_check cluster ≡ ClusterCheck.Whole
-  pub target-good : target_check (room_at reserve cluster) ≡ TargetCheck.Good
+  pub cluster-whole : cluster_check cluster ≡ Ok tt
+  pub target-good : target_check (room_at reserve cluster) ≡ Ok tt
 
 -- none of the faults 23, 1 to 9 and 11 to 14
 pub record Shaped (reserve : ℕ) (cluster plan : List ℕ) : Type 0 where
   pub taken : AcceptedCluster reserve cluster
-  pub plan-whole : plan_check plan ≡ PlanCheck.Whole
+  pub plan-whole : plan_check plan ≡ Ok tt
 
 -- what the rules ask of a begin: it fits, meets no mate, and its destination is allowed
 pub record Obeys (room : Room) (cs : Moment) (v d : ℕ) : Type 0 where
@@ -223,7 +220,7 @@ pub record NothingDown (room : Room) : Type 0 where
 pub record AcceptedDivided (reserve : ℕ) (cluster plan : List ℕ) (divided : List Step) : Type 0 where
   pub stands-for : steps_of (record_bytes (kept_version plan) divided) ≡ divided
   pub accepted : verdict_of reserve cluster (record_bytes (kept_version plan) divided) ≡ Verdict.Accepted (cost_of (room_at reserve cluster) divided)
-  pub any-record : (other : List ℕ) → plan_check other ≡ PlanCheck.Whole → steps_of other ≡ divided →
+  pub any-record : (other : List ℕ) → plan_check other ≡ Ok tt → steps_of other ≡ divided →
       verdict_of reserve cluster other ≡ Verdict.Accepted (cost_of (room_at reserve cluster) divided)
   pub no-cheaper : cost_of (room_at reserve cluster) (steps_of plan) ≤ cost_of (room_at reserve cluster) divided
 
@@ -276,7 +273,7 @@ pub record Checked (reserve : ℕ) (cluster plan : List ℕ) (r : ℕ) : Type 0 
   pub apart : SaysGood r → StaysApart (room_at reserve cluster) (current_of (room_at reserve cluster)) (steps_of plan)
   -- nor takes a VM down that is wanted on a node; in a cluster of version 1 nobody is down or is to be, and a shutdown is 15 (02, Job 2)
   pub running : SaysGood r → KeepsRunning (room_at reserve cluster) (current_of (room_at reserve cluster)) (steps_of plan)
-  pub version-1 : cluster_check cluster ≡ ClusterCheck.Whole → version_of cluster ≡ 1 → NothingDown (room_at reserve cluster)
+  pub version-1 : cluster_check cluster ≡ Ok tt → version_of cluster ≡ 1 → NothingDown (room_at reserve cluster)
   -- nor moves a VM while one that comes before it is off its target or moves too (02, Job 13)
   pub waits : SaysGood r → WaitsItsTurn (room_at reserve cluster) (current_of (room_at reserve cluster)) (steps_of plan)
   -- an accepted plan of version 2 names for every move the place of its VM when the step starts; nothing but 27 looks at a source; a

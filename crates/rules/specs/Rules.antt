@@ -1,6 +1,6 @@
 -- Which destinations are allowed, what the target owes, and the faults of a step (01, "Numbers of the refusals", 8, 9, 15 to 18; 02, Job 2,
 -- Job 7, 27, and Job 13, 33).
-use Rattle.std.specs.Prelude.{ℕ, zero, suc, Bool, true, false, not, ◌&&◌, ◌||◌, List, [], ◌∷◌, length, ltb, leb, eqb}
+use Rattle.std.specs.Prelude.{ℕ, zero, suc, Bool, true, false, not, ◌&&◌, ◌||◌, List, [], ◌∷◌, length, ltb, leb, eqb, Result, Ok, Err}
 use Rattle.records.specs.Base.{pick, all}
 use Rattle.records.specs.Room.{Constraint, ban, fence, spread, latency, before, has, vms_of, Room, node_of, vm_of, nowhere, on_node}
 use Rattle.records.specs.Plan.{Step}
@@ -8,12 +8,10 @@ use Rattle.records.specs.declared.plan.Source.{Source}
 use Rattle.records.specs.declared.plan.Source.TheVariants.{Unnamed, Named}
 use Rattle.rules.specs.Moments.{Placement, place_of, target_of, at_target, within, bears_at, tally_at, first_moment, at_rest, all_running}
 use Rattle.rules.specs.Orders.{some, meets_mate}
+use Rattle.rules.specs.declared.faults.StepFault.{StepFault}
+use Rattle.rules.specs.declared.faults.TargetFault.{TargetFault}
 use Rattle.rules.specs.declared.faults.TargetFault.TheVariants.{Overfull, Broken}
-use Rattle.rules.specs.declared.faults.TargetCheck.{TargetCheck}
-use Rattle.rules.specs.declared.faults.TargetCheck.TheVariants.{Good, Bad}
 use Rattle.rules.specs.declared.faults.StepFault.TheVariants.{Misnamed, Elsewhere, Forbidden, Misfit, Mate, Early}
-use Rattle.rules.specs.declared.faults.StepCheck.{StepCheck}
-use Rattle.rules.specs.declared.faults.StepCheck.TheVariants.{Clear, Faulty}
 
 -- ---- destinations
 
@@ -61,11 +59,11 @@ keeps places (latency vms groups) =
 keeps places (before first second) = true
 
 -- the target's fault
-unfoldable pub target_check : Room → TargetCheck
+unfoldable pub target_check : Room → Result (Unit {0}) TargetFault
 target_check room =
-    pick (not (fits_all room (target_of room))) (Bad Overfull)
-    (pick (not (all (keeps (target_of room)) room.constraints)) (Bad Broken)
-    Good)
+    pick (not (fits_all room (target_of room))) (Err Overfull)
+    (pick (not (all (keeps (target_of room)) room.constraints)) (Err Broken)
+    (Ok tt))
 
 -- ---- a step
 
@@ -133,15 +131,15 @@ unfoldable pub waits_for : Room → ℕ → ℕ → Bool
 waits_for room v u = some (puts u v) room.constraints
 
 -- the first fault of a step in checking order
-unfoldable pub step_check : Room → Placement → Step → StepCheck
+unfoldable pub step_check : Room → Placement → Step → Result (Unit {0}) StepFault
 step_check room places step =
-    pick (not (named room places 0 step)) (Faulty Misnamed)
-    (pick (not (sourced places step)) (Faulty Elsewhere)
-    (pick (not (permitted room step)) (Faulty Forbidden)
-    (pick (not (fitting room places step)) (Faulty Misfit)
-    (pick (not (unmet room places step)) (Faulty Mate)
-    (pick (not (in_turn room places step)) (Faulty Early)
-    Clear)))))
+    pick (not (named room places 0 step)) (Err Misnamed)
+    (pick (not (sourced places step)) (Err Elsewhere)
+    (pick (not (permitted room step)) (Err Forbidden)
+    (pick (not (fitting room places step)) (Err Misfit)
+    (pick (not (unmet room places step)) (Err Mate)
+    (pick (not (in_turn room places step)) (Err Early)
+    (Ok tt))))))
 
 -- a step is sound: it has none of the faults 15 to 18 and 33. A source that is named wrongly does not make it unsound. (Promises has the same over
 -- every order of the step, and the two agree: Laws.Runs, sound-orders.)

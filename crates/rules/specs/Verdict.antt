@@ -1,17 +1,14 @@
 -- The verdict on a plan: the whole checking order, the numbers of the refusals, and the packing (01, "Numbers of the refusals"; 02, Jobs 5, 7 and 13).
-use Rattle.std.specs.Prelude.{ℕ, suc, ◌+◌, ◌*◌, ◌^◌, Bool, List, [], ◌∷◌, length, ltb}
+use Rattle.std.specs.Prelude.{ℕ, suc, ◌+◌, ◌*◌, ◌^◌, Bool, List, [], ◌∷◌, length, ltb, Result, Ok, Err}
 use Rattle.records.specs.Base.{pick, all}
 use Rattle.records.specs.Room.{Room, most_reserve, room_at, cluster_check, cluster_number}
 use Rattle.records.specs.Plan.{Step, steps_of, plan_check, plan_number}
-use Rattle.records.specs.declared.faults.ClusterCheck.{ClusterCheck}
-use Rattle.records.specs.declared.faults.PlanCheck.{PlanCheck}
+use Rattle.records.specs.declared.faults.ReadFault.{ReadFault}
 use Rattle.rules.specs.Moments.{Placement, current_of, at_target, after}
 use Rattle.rules.specs.Rules.{from, target_check, step_check}
 use Rattle.rules.specs.Cost.{cost_of}
 use Rattle.rules.specs.declared.faults.TargetFault.{TargetFault}
-use Rattle.rules.specs.declared.faults.TargetCheck.{TargetCheck}
 use Rattle.rules.specs.declared.faults.StepFault.{StepFault}
-use Rattle.rules.specs.declared.faults.StepCheck.{StepCheck}
 use Rattle.rules.specs.declared.faults.Fault.{Fault}
 use Rattle.rules.specs.declared.faults.Fault.TheVariants.{Reserve, Cluster, Target, Plan, Step as AtStep, OffTarget}
 use Rattle.rules.specs.declared.faults.Verdict.{Verdict}
@@ -25,28 +22,16 @@ home room places = all (λ v. at_target room places v) (from 0 (length room.vms)
 unfoldable pub on_reserve : ℕ → Verdict → Verdict
 on_reserve reserve rest = pick (ltb most_reserve reserve) (Refused Reserve) rest
 
-unfoldable pub on_cluster : ClusterCheck → Verdict → Verdict
-on_cluster ClusterCheck.Whole rest = rest
-on_cluster (ClusterCheck.Damaged fault) rest = Refused (Cluster fault)
-
-unfoldable pub on_target : TargetCheck → Verdict → Verdict
-on_target TargetCheck.Good rest = rest
-on_target (TargetCheck.Bad fault) rest = Refused (Target fault)
-
-unfoldable pub on_plan : PlanCheck → Verdict → Verdict
-on_plan PlanCheck.Whole rest = rest
-on_plan (PlanCheck.Damaged fault) rest = Refused (Plan fault)
-
-unfoldable pub on_step : StepCheck → ℕ → Verdict → Verdict
-on_step StepCheck.Clear number rest = rest
-on_step (StepCheck.Faulty fault) number rest = Refused (AtStep fault number)
+unfoldable pub on_check : {E : Type 0} → (E → Fault) → Result (Unit {0}) E → Verdict → Verdict
+on_check kind (Ok done) rest = rest
+on_check kind (Err fault) rest = Refused (kind fault)
 
 -- the steps one by one, `number` being that of the next: the first fault found, then 19, else `good`
 unfoldable pub steps_verdict : Room → Verdict → Placement → ℕ → List Step → Verdict
 steps_verdict room good places number [] = pick (home room places) good (Refused OffTarget)
 steps_verdict room good places number (step ∷ steps) =
     let rest = steps_verdict room good (after places step) (suc number) steps in
-    on_step (step_check room places step) number rest
+    on_check (λ fault. AtStep fault number) (step_check room places step) rest
 
 -- the verdict on steps for a room
 unfoldable pub plan_verdict : Room → List Step → Verdict
@@ -56,10 +41,15 @@ plan_verdict room steps = steps_verdict room (Accepted (cost_of room steps)) (cu
 unfoldable pub verdict_of : ℕ → List ℕ → List ℕ → Verdict
 verdict_of reserve cluster plan =
     on_reserve reserve
-    (on_cluster (cluster_check cluster)
-    (on_target (target_check (room_at reserve cluster))
-    (on_plan (plan_check plan)
+    (on_check Cluster (cluster_check cluster)
+    (on_check Target (target_check (room_at reserve cluster))
+    (on_check Plan (plan_check plan)
     (plan_verdict (room_at reserve cluster) (steps_of plan)))))
+
+-- the fault that reading a cluster record tells
+abbrev pub read_fault : ReadFault → Fault
+read_fault ReadFault.Reserve = Reserve
+read_fault (ReadFault.Record fault) = Cluster fault
 
 -- the documents' number of each fault, and the step that goes with it (a fault of no step: 0)
 abbrev pub target_number : TargetFault → ℕ

@@ -1,101 +1,78 @@
 // Where each VM may go, decided once for a call: 64 marks for each VM, 1 where it may, 0 where a ban or a fence keeps it away.
-ghost use Rattle.std.specs.Prelude.{◌≡◌, true, ◌<◌, replicate};
-ghost use Rattle.records.specs.Room.{nodes_of, constraint_of, room_of, filled, cluster_check};
+ghost use Rattle.std.specs.Prelude.{◌≡◌, ◌<◌, not, replicate};
 ghost use Rattle.records.specs.Inner.{Below};
-ghost use Rattle.records.specs.declared.faults.ClusterCheck.{ClusterCheck};
-ghost use Rattle.rules.specs.Inner.{kept_mark, row_kept, list_kept, stopped, applied, allow_table};
+ghost use Rattle.rules.specs.Inner.{row_kept, list_kept, stopped, stops_of, applied, allow_table};
 
-use crate::arrays::{ALLOWED, AllowTable, NODES};
-use crate::places::entry;
-use records::Kind;
-
-// A mark, taken away where the node is stopped.
-fn kept(stop: u8, old: u8) -> u8
-    ensures { result ≡ kept_mark stop old }
-{
-    if stop == 0 { old } else { 0 }
-}
+use crate::arrays::{ALLOWED, AllowTable, NODES, Nodes};
+use records::{Cluster, Constraint, Kind};
 
 // The row of VM v, without the stopped nodes.
-fn keep_row(v: usize, stop: &[u8; NODES], table: &mut AllowTable)
+fn keep_row(v: usize, stop: &Nodes, table: &mut AllowTable)
     requires { v < 256 }
     ensures { table.new ≡ row_kept table.old stop.now v 64 }
 {
-    let mut d: usize = 0;
-    while d < NODES {
+    for d in 0..NODES {
         let at = v * NODES + d;
-        table[at] = kept(stop[d], table[at]);
-        d += 1;
+        // Read whether or not it is taken away, so that the compiler can do many at once.
+        let mark = table[at];
+        table[at] = if stop[d] { 0 } else { mark };
     }
 }
 
 // The rows of the VMs, without the stopped nodes.
-fn keep_rows(vms: &[u8], stop: &[u8; NODES], table: &mut AllowTable)
+fn keep_rows(vms: &[u8], stop: &Nodes, table: &mut AllowTable)
     ensures { table.new ≡ list_kept table.old stop.now vms.now }
 {
-    let mut i: usize = 0;
-    while i < vms.len() {
-        keep_row(entry(vms, i), stop, table);
-        i += 1;
+    for &v in vms {
+        keep_row(usize::from(v), stop, table);
     }
 }
 
-// Marks for the nodes named, on a ground.
-pub fn stops(nodes: &[u8], ground: u8, mark: u8) -> [u8; NODES]
+// The nodes named, or all others.
+pub fn stops(nodes: &[u8], named: bool) -> Nodes
     requires { Below 64 nodes.now }
-    ensures { result ≡ stopped (replicate 64 ground) mark nodes.now }
+    ensures { result ≡ stopped (replicate 64 (not named)) named nodes.now }
 {
-    let mut marks = [ground; NODES];
-    let mut i: usize = 0;
-    while i < nodes.len() {
-        let d = entry(nodes, i);
-        marks[d] = mark;
-        i += 1;
+    let mut stop = [!named; NODES];
+    for &d in nodes {
+        stop[usize::from(d)] = named;
     }
-    marks
+    stop
 }
 
-// The table, without what one constraint forbids: a ban stops the nodes it names, a fence all others.
-fn apply(p: &[u8], table: &mut AllowTable)
-    requires { (filled p.now ≡ true) × Below 64 (nodes_of (constraint_of p.now)) }
-    ensures { table.new ≡ applied table.old (constraint_of p.now) }
+// The nodes that a constraint keeps its VMs from: a ban those that it names, a fence all others.
+pub fn stops_of(constraint: &Constraint<'_>) -> Nodes
+    ensures { result ≡ stops_of constraint.now }
 {
-    let kind = records::kind_at(p);
-    match kind {
-        Kind::Ban => {
-            let stop = stops(records::named_nodes(p), 0, 1);
-            keep_rows(records::bound_vms(p), &stop, table);
-        }
-        Kind::Fence => {
-            let stop = stops(records::named_nodes(p), 1, 0);
-            keep_rows(records::bound_vms(p), &stop, table);
-        }
-        Kind::Spread => {}
-        Kind::Latency => {}
-        Kind::Before => {}
+    match constraint.kind() {
+        Kind::Fence => stops(constraint.nodes(), false),
+        _ => stops(constraint.nodes(), true),
+    }
+}
+
+// The table, without what one constraint forbids.
+fn apply(constraint: &Constraint<'_>, table: &mut AllowTable)
+    ensures { table.new ≡ applied table.old constraint.now }
+{
+    match constraint.kind() {
+        Kind::Ban | Kind::Fence => keep_rows(constraint.vms(), &stops_of(constraint), table),
+        _ => {}
     }
 }
 
 // Fills a lent table, whatever was in it. What a call keeps is filled so: a table that is returned takes its length of stack twice.
-pub fn fill_allow_table(cluster: &[u8], table: &mut AllowTable)
-    requires { cluster_check cluster.now ≡ ClusterCheck.Whole }
-    ensures { table.new ≡ allow_table (room_of cluster.now) }
+pub fn fill_allow_table(cluster: &Cluster<'_>, table: &mut AllowTable)
+    ensures { table.new ≡ allow_table cluster.now }
 {
     *table = [1u8; ALLOWED];
-    let mut at = records::first_constraint(cluster);
-    let mut left = records::constraint_count(cluster);
-    while 0 < left {
-        let p = records::part(cluster, at);
-        apply(p, table);
-        at += p.len();
-        left -= 1;
+    for constraint in cluster.constraints() {
+        apply(&constraint, table);
     }
 }
 
-// The whole table.
-pub fn allow_table(cluster: &[u8]) -> AllowTable
-    requires { cluster_check cluster.now ≡ ClusterCheck.Whole }
-    ensures { result ≡ allow_table (room_of cluster.now) }
+// The whole table by value, for a caller that keeps it in a place of its own.
+pub fn allow_table(cluster: &Cluster<'_>) -> AllowTable
+    ensures { result ≡ allow_table cluster.now }
 {
     let mut table = [0u8; ALLOWED];
     fill_allow_table(cluster, &mut table);

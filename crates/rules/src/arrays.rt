@@ -20,7 +20,10 @@ pub const PLACES: usize = 256;
 
 pub type Sums = [Tally; PLACES];
 
-pub type Marks = [u8; PLACES];
+pub type Marks = [bool; PLACES];
+
+// Some of the nodes.
+pub type Nodes = [bool; NODES];
 
 // A mark for each node of each VM: 1 where the VM may go.
 pub const ALLOWED: usize = 16384;

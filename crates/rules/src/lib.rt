@@ -18,11 +18,8 @@ mod wanted;
 ghost use Rattle.rules.specs.Promises.{Checked};
 
 // What a verdict says.
-pub use faults::{
-    Fault, StepCheck, StepFault, TargetCheck, TargetFault, Verdict, fault_number, fault_step,
-    target_number,
-};
-pub use verdict::verdict_on;
+pub use faults::{Fault, StepFault, TargetFault, Verdict};
+pub use verdict::{judged, verdict_on};
 
 // What a plan costs.
 pub use cost::plan_cost;
@@ -36,7 +33,7 @@ pub use tally::{Need, Tally, bears_vm, need_of};
 
 // Placements, destinations and the target.
 pub use allow::{allow_table, fill_allow_table};
-pub use places::{current_places, entry, moved, place_at, target_places, wide};
+pub use places::{current_places, moved, target_places};
 pub use wanted::{at_home, target_check};
 
 // The verdict on a plan for a cluster, with so many percent of each node kept free, on any number and any two byte strings: an accepted

@@ -1,9 +1,10 @@
 // A node's tally: the memory and CPU of the VMs that count there.
-ghost use Rattle.std.specs.Prelude.{◌≡◌, ◌+◌, ◌≤◌, ◌<◌, ◌^◌};
-ghost use Rattle.records.specs.Room.{most_reserve, room_of, room_at, node_of, vm_of, node_count, vm_count, cluster_check};
-ghost use Rattle.records.specs.declared.faults.ClusterCheck.{ClusterCheck};
-ghost use Rattle.rules.specs.Moments.{within_memory, within_cpu, within, bears};
+ghost use Rattle.std.specs.Prelude.{◌≡◌, ◌+◌, ◌≤◌, ◌<◌, ◌^◌, length};
+ghost use Rattle.records.specs.Room.{node_of, vm_of};
+ghost use Rattle.rules.specs.Moments.{within, bears};
 ghost use Rattle.rules.specs.Inner.{NeedOf};
+
+use records::Cluster;
 
 // What a VM needs.
 #[derive(Clone, Copy)]
@@ -35,53 +36,32 @@ impl Tally {
 }
 
 // What VM v needs.
-pub fn need_of(cluster: &[u8], v: usize) -> Need
-    requires { (cluster_check cluster.now ≡ ClusterCheck.Whole) × (v < vm_count cluster.now) }
-    ensures { NeedOf (room_of cluster.now) v result }
+pub fn need_of(cluster: &Cluster<'_>, v: usize) -> Need
+    requires { v < length cluster.now.vms }
+    ensures { NeedOf cluster.now v result }
 {
     Need {
-        memory: records::vm_memory(cluster, v) as u64,
-        cpu: records::vm_cpu(cluster, v) as u64,
+        memory: cluster.vm_memory(v),
+        cpu: cluster.vm_cpu(v),
     }
-}
-
-// Whether a tally's memory is within what is usable of node d's.
-fn within_memory(reserve: u64, cluster: &[u8], d: usize, t: Tally) -> bool
-    requires { (cluster_check cluster.now ≡ ClusterCheck.Whole) × (reserve ≤ most_reserve) × (d < node_count cluster.now) }
-    ensures { result ≡ within_memory (node_of (room_at reserve cluster.now) d) t }
-{
-    t.memory <= records::node_memory(reserve, cluster, d)
-}
-
-// Whether a tally's CPU is within what is usable of node d's.
-fn within_cpu(reserve: u64, cluster: &[u8], d: usize, t: Tally) -> bool
-    requires { (cluster_check cluster.now ≡ ClusterCheck.Whole) × (reserve ≤ most_reserve) × (d < node_count cluster.now) }
-    ensures { result ≡ within_cpu (node_of (room_at reserve cluster.now) d) t }
-{
-    t.cpu <= records::node_cpu(reserve, cluster, d)
 }
 
 // Whether a tally is within what is usable of node d.
-pub fn within_node(reserve: u64, cluster: &[u8], d: usize, t: Tally) -> bool
-    requires { (cluster_check cluster.now ≡ ClusterCheck.Whole) × (reserve ≤ most_reserve) × (d < node_count cluster.now) }
-    ensures { result ≡ within (node_of (room_at reserve cluster.now) d) t }
+#[tactic(auto, unfolding(crate::specs::Moments::within))]
+pub fn within_node(cluster: &Cluster<'_>, d: usize, tally: Tally) -> bool
+    requires { d < length cluster.now.nodes }
+    ensures { result ≡ within (node_of cluster.now d) tally }
 {
-    if !within_memory(reserve, cluster, d, t) {
-        return false;
-    }
-    within_cpu(reserve, cluster, d, t)
+    tally.memory <= cluster.node_memory(d) && tally.cpu <= cluster.node_cpu(d)
 }
 
 // Whether node d bears a tally for VM v, which begins: an idle one is tested for the memory alone.
-pub fn bears_vm(reserve: u64, cluster: &[u8], d: usize, sum: Tally, v: usize) -> bool
-    requires { (cluster_check cluster.now ≡ ClusterCheck.Whole) × (reserve ≤ most_reserve) × (d < node_count cluster.now) × (v < vm_count cluster.now) }
-    ensures { result ≡ bears (node_of (room_at reserve cluster.now) d) sum (vm_of (room_at reserve cluster.now) v) }
+#[tactic(auto, unfolding(crate::specs::Moments::bears))]
+pub fn bears_vm(cluster: &Cluster<'_>, d: usize, tally: Tally, v: usize) -> bool
+    requires node { d < length cluster.now.nodes }
+    requires vm { v < length cluster.now.vms }
+    ensures { result ≡ bears (node_of cluster.now d) tally (vm_of cluster.now v) }
 {
-    if !within_memory(reserve, cluster, d, sum) {
-        return false;
-    }
-    if within_cpu(reserve, cluster, d, sum) {
-        return true;
-    }
-    records::vm_cpu(cluster, v) == 0
+    tally.memory <= cluster.node_memory(d)
+        && (cluster.vm_cpu(v) == 0 || tally.cpu <= cluster.node_cpu(d))
 }

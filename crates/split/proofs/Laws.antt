@@ -1,7 +1,6 @@
 -- The laws, by topic.
 pub mod Singles
 pub mod Writing
-pub mod Outcomes
 pub mod Packing
 pub mod Promised
 pub mod Readings

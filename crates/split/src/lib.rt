@@ -8,7 +8,7 @@ mod splitting;
 ghost use Rattle.split.specs.Promises.{Split};
 
 // What a split comes to.
-pub use outcome::{Divided, Outcome, SplitFault, split_number, split_step};
+pub use outcome::{Divided, Outcome, SplitFault};
 pub use splitting::{LEAST_BUFFER, outcome_of};
 
 // Divides every step of an accepted plan into single moves, by VM number, on any number and any three byte strings: writes the record of these steps,

@@ -1,12 +1,14 @@
 -- What functions inside the crate answer, on the way to the definitions of Stops. Nothing here has to be believed.
-use Rattle.std.specs.Prelude.{ℕ, ◌+◌, ◌-◌, ◌<◌, ◌≤◌, List, ◌≡◌, length}
-use Rattle.records.specs.Room.{room_of, updated}
-use Rattle.records.specs.Plan.{step_count, step_at, steps_from, steps_end}
-use Rattle.records.specs.Inner.{Steps}
+use Rattle.std.specs.Prelude.{ℕ, ◌-◌, ◌≤◌, not, List, ◌≡◌, length, take, ltb, Option, Some, None, Result, Ok, Err}
+use Rattle.records.specs.Base.{pick}
+use Rattle.records.specs.Room.{Room, updated}
+use Rattle.records.specs.Plan.{Step}
 use Rattle.rules.specs.Moments.{current_of, after}
 use Rattle.rules.specs.Promises.{after_all}
 use Rattle.rules.specs.Inner.{array_of}
-use Rattle.stop.specs.Stops.{ended_moves, accepted_stop, buffer_of, stop_step}
+use Rattle.stop.specs.Stops.{numbered, ended_moves, marked, marks_ok, buffer_of, stop_step}
+use Rattle.stop.specs.declared.outcome.StopFault.{StopFault}
+use Rattle.stop.specs.declared.outcome.StopFault.TheVariants.{NoStep, BadMark, Buffer}
 use Rattle.stop.specs.declared.outcome.Outcome.{Outcome}
 use Rattle.stop.specs.declared.outcome.Outcome.TheVariants.{Done, Refused}
 
@@ -15,21 +17,27 @@ abbrev pub Packs : Outcome → Type 0
 Packs (Done size) = size ≤ 65535
 Packs (Refused fault) = stop_step fault ≤ 512
 
--- the array of places behind the first n steps, and the same with the marked moves of the next
-unfoldable pub array_before : List ℕ → List ℕ → ℕ → List ℕ
-array_before cluster plan n = after_all (array_of (current_of (room_of cluster))) (steps_from plan 7 n)
+-- a length written or a fault, as an outcome
+abbrev pub as_outcome : Result ℕ StopFault → Outcome
+as_outcome (Ok size) = Done size
+as_outcome (Err fault) = Refused fault
 
-unfoldable pub array_stopped : List ℕ → List ℕ → ℕ → List ℕ → List ℕ
-array_stopped cluster plan n marks = after (array_before cluster plan n) (ended_moves (step_at plan (steps_end plan 7 n)) marks)
+-- 20: step n of a plan, if it is one of the plan's and has as many moves as there are marks
+unfoldable pub marked_step : List Step → ℕ → List ℕ → Option Step
+marked_step steps n marks = pick (marked steps n marks) (Some (numbered steps n)) None
 
--- what is answered from an accepted plan on, and the buffer that goes with it
-pub record StopsAccepted (cluster plan : List ℕ) (n : ℕ) (marks before after : List ℕ) (r : Outcome) : Type 0 where
-  pub is : r ≡ accepted_stop cluster plan n marks (length before)
-  pub buffer : after ≡ buffer_of r (updated cluster (array_stopped cluster plan (n - 1) marks)) before
+-- the array of places when a plan is stopped in step n
+unfoldable pub array_stopped : Room → List Step → ℕ → List ℕ → List ℕ
+array_stopped room steps n marks = after (after_all (array_of (current_of room)) (take (n - 1) steps)) (ended_moves (numbered steps n) marks)
 
--- a walk over the first n steps of an undamaged plan: `left` of them are still to come, from a place on
-pub record Placing (plan : List ℕ) (n at left : ℕ) : Type 0 where
-  pub few : left ≤ n
-  pub below : n < step_count plan
-  pub steps : Steps plan at (left + (step_count plan - n))
-  pub ends : steps_end plan at left ≡ steps_end plan 7 n
+-- the same, behind the tests for 20 and 21
+unfoldable pub stopped_places : Room → List Step → ℕ → List ℕ → Result (List ℕ) StopFault
+stopped_places room steps n marks =
+    pick (not (marked steps n marks)) (Err NoStep)
+    (pick (not (marks_ok marks)) (Err BadMark)
+    (Ok (array_stopped room steps n marks)))
+
+-- the record with its VMs at these places put at the buffer's front, behind the test for 22
+pub record Puts (cluster places before after : List ℕ) (r : Result ℕ StopFault) : Type 0 where
+  pub is : r ≡ pick (ltb (length before) (length cluster)) (Err Buffer) (Ok (length cluster))
+  pub buffer : after ≡ buffer_of (as_outcome r) (updated cluster places) before

@@ -9,7 +9,7 @@ mod stopping;
 ghost use Rattle.stop.specs.Promises.{Stopped};
 
 // What a stop comes to.
-pub use outcome::{Outcome, StopFault, stop_number, stop_step};
+pub use outcome::{Outcome, StopFault};
 pub use stopping::outcome_of;
 
 // Stops a plan in a step, with a mark for each of the step's moves, on any two numbers and any four byte strings: writes the cluster record with

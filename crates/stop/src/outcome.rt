@@ -1,12 +1,13 @@
-// What a stop comes to, by name, the documents' number and step of a refusal, and all of it as one number.
+// What a stop comes to, by name, the number (docs/REFUSALS.md) and step of a refusal, and all of it as one number.
 ghost use Rattle.std.specs.Prelude.{◌≡◌, ◌<◌};
 ghost use Rattle.stop.specs.Stops.{stop_number, stop_step, packed_stop};
 ghost use Rattle.stop.specs.Inner.{Packs};
+ghost use Rattle.stop.specs.declared.outcome.StopFault.TheVariants.{Check};
 
 use rules::{Fault, packing};
 
 // What the checker refuses, a step that is not there or has not as many moves as there are marks, a mark other than 0 and 1, or a short buffer.
-#[derive(Clone, Copy)]
+#[derive(Clone, Copy, PartialEq, Eq)]
 pub enum StopFault {
     Check(Fault),
     NoStep,
@@ -15,43 +16,55 @@ pub enum StopFault {
 }
 
 // The length of the record written, or a refusal.
-#[derive(Clone, Copy)]
+// An enum of its own, not a Result: what is promised gives the number and the values of each case.
+#[derive(Clone, Copy, PartialEq, Eq)]
 pub enum Outcome {
     Done(usize),
     Refused(StopFault),
 }
 
-pub fn stop_number(f: StopFault) -> u64
-    ensures { (result ≡ stop_number f) × (result < 256) }
-{
-    match f {
-        StopFault::Check(c) => rules::fault_number(c),
-        StopFault::NoStep => 20,
-        StopFault::BadMark => 21,
-        StopFault::Buffer => 22,
+impl From<Fault> for StopFault {
+    ghost from_gives = { λ found fault. fault ≡ Check found };
+
+    fn from(found: Fault) -> StopFault {
+        StopFault::Check(found)
     }
 }
 
-pub fn stop_step(f: StopFault) -> usize
-    ensures { result ≡ stop_step f }
-{
-    match f {
-        StopFault::Check(c) => rules::fault_step(c),
-        StopFault::NoStep => 0,
-        StopFault::BadMark => 0,
-        StopFault::Buffer => 0,
+impl StopFault {
+    // Its number (docs/REFUSALS.md).
+    pub fn number(self) -> u64
+        ensures number { result ≡ stop_number self }
+        ensures below { result < 256 }
+    {
+        match self {
+            StopFault::Check(fault) => fault.number(),
+            StopFault::NoStep => 20,
+            StopFault::BadMark => 21,
+            StopFault::Buffer => 22,
+        }
+    }
+
+    // The step that goes with it.
+    pub fn step(self) -> usize
+        ensures { result ≡ stop_step self }
+    {
+        match self {
+            StopFault::Check(fault) => fault.step(),
+            _ => 0,
+        }
     }
 }
 
-// An outcome as one number.
-pub fn pack(o: Outcome) -> u64
-    requires { Packs o }
-    ensures { result ≡ packed_stop o }
+// An outcome as one number. Each call packs its own answer; what they share is `rules::packing`.
+pub fn pack(outcome: Outcome) -> u64
+    requires { Packs outcome }
+    ensures { result ≡ packed_stop outcome }
 {
-    match o {
+    match outcome {
         Outcome::Done(size) => size as u64,
-        Outcome::Refused(f) => packing::REFUSED
-            + stop_number(f) * packing::NUMBER
-            + stop_step(f) as u64,
+        Outcome::Refused(fault) => packing::REFUSED
+            + fault.number() * packing::NUMBER
+            + fault.step() as u64,
     }
 }

@@ -1,50 +1,35 @@
 // Writing the cluster record with the VMs at other places.
-ghost use Rattle.std.specs.Prelude.{◌≡◌, ◌≤◌, ◌<◌, length, set, take};
-ghost use Rattle.records.specs.Room.{vm_count, current_at, updated, cluster_check};
+ghost use Rattle.std.specs.Prelude.{◌≡◌, ◌≤◌, length, Ok};
+ghost use Rattle.records.specs.Room.{updated, cluster_check};
 ghost use Rattle.records.specs.Plan.{written};
-ghost use Rattle.records.specs.declared.faults.ClusterCheck.{ClusterCheck};
+ghost use Rattle.stop.specs.Inner.{Puts};
 
+use crate::outcome::StopFault;
+use records::Cluster;
 use rules::Placement;
 
-// Puts a copy of bytes at the buffer's front.
-fn copy_front(bytes: &[u8], out: &mut [u8])
-    requires { length bytes.now ≤ length out.old }
-    ensures { out.new ≡ written out.old 0 bytes.now }
+// Writes the record of a cluster with its VMs at these places at the buffer's front. Over bytes, as they are what is written: a view forgets them.
+fn write_record(cluster: &[u8], places: &Placement, out: &mut [u8])
+    requires whole { cluster_check cluster.now ≡ Ok tt }
+    requires fits { length cluster.now ≤ length out.old }
+    ensures { out.new ≡ written out.old 0 (updated cluster.now places.now) }
 {
-    let mut i: usize = 0;
-    while i < bytes.len() {
-        out[i] = bytes[i];
-        i += 1;
+    out[..cluster.len()].copy_from_slice(cluster);
+    let view = Cluster::whole(0, cluster);
+    for v in 0..view.vm_count() {
+        view.put_place(v, places[v], out);
     }
 }
 
-// Puts the place of VM v into the copy of the cluster record.
-fn put_place(cluster: &[u8], v: usize, place: u8, out: &mut [u8])
-    requires { (cluster_check cluster.now ≡ ClusterCheck.Whole) × (v < vm_count cluster.now) × (length cluster.now ≤ length out.old) }
-    ensures { out.new ≡ set out.old (current_at cluster.now v) place }
+// The same, and its length, or 22 if the buffer is too short for it.
+#[tactic(auto, unfolding(crate::specs::Stops::buffer_of))]
+pub fn put_record(cluster: &[u8], places: &Placement, out: &mut [u8]) -> Result<usize, StopFault>
+    requires { cluster_check cluster.now ≡ Ok tt }
+    ensures { Puts cluster.now places.now out.old out.new result }
 {
-    let at = records::current_at(cluster, v);
-    out[at] = place;
-}
-
-// Puts all places into the copy.
-fn put_places(cluster: &[u8], places: &Placement, out: &mut [u8])
-    requires { (cluster_check cluster.now ≡ ClusterCheck.Whole) × (take (length cluster.now) out.old ≡ cluster.now) × (length cluster.now ≤ length out.old) }
-    ensures { out.new ≡ written out.old 0 (updated cluster.now places.now) }
-{
-    let n = records::vm_count(cluster);
-    let mut v: usize = 0;
-    while v < n {
-        put_place(cluster, v, places[v], out);
-        v += 1;
+    if out.len() < cluster.len() {
+        return Err(StopFault::Buffer);
     }
-}
-
-// Writes the record of a cluster with its VMs at these places at the buffer's front.
-pub fn write_record(cluster: &[u8], places: &Placement, out: &mut [u8])
-    requires { (cluster_check cluster.now ≡ ClusterCheck.Whole) × (length cluster.now ≤ length out.old) }
-    ensures { out.new ≡ written out.old 0 (updated cluster.now places.now) }
-{
-    copy_front(cluster, out);
-    put_places(cluster, places, out);
+    write_record(cluster, places, out);
+    Ok(cluster.len())
 }

@@ -3,132 +3,51 @@
 // step's moves, a digit each (1 ended, 0 stayed), and the file for the record; a sixth one is the reserve, in percent, without which it is 0.
 #![tactic(auto)]
 
-use files::{Number, Size};
-use std::rt::{Env, Files};
-use stop::{Outcome, StopFault};
+use files::{Argument, Trouble};
+use std::array;
+use std::rt::Files;
+use stop::Outcome;
 
-fn refused<R: Print>(rt: &R, fault: StopFault) {
-    files::field(rt, b"refused ", stop::stop_number(fault));
-    files::field(rt, b" step ", stop::stop_step(fault) as u64);
-    files::put(rt, b"\n");
-}
+const USAGE: &str =
+    "it takes a cluster file, a plan file, a step, marks and a file for the record, and a reserve if one is kept";
 
-// The line of a stop that is done; none if its record cannot be written.
-fn done<R: Env + Files + Print, E: Print>(rt: &R, err: &E, out: &[u8], size: usize) {
-    if files::save(rt, err, b"stopped", 5, files::front(out, size)) {
-        files::field(rt, b"stopped length ", size as u64);
-        files::put(rt, b"\n");
-    }
-}
-
-// The line of a stop; its record goes into the lent buffer.
-fn stopped<R: Env + Files + Print, E: Print>(
+// The line of a stop; its record goes to the file first.
+fn stop_in<'a, R: Files + Print>(
     rt: &R,
-    err: &E,
     reserve: u64,
     cluster: &[u8],
     plan: &[u8],
     step: u64,
     marks: &[u8],
-    out: &mut [u8],
-) {
-    let found = stop::outcome_of(reserve, cluster, plan, step, marks, out);
-    match found {
-        Outcome::Done(size) => done(rt, err, out, size),
-        Outcome::Refused(fault) => refused(rt, fault),
-    }
-}
-
-// The line of a stop by files of so many bytes, whose first are in the buffers.
-fn stopped_files<R: Env + Files + Print, E: Print>(
-    rt: &R,
-    err: &E,
-    reserve: u64,
-    cluster: &[u8; 65536],
-    n: usize,
-    plan: &[u8; 65536],
-    m: usize,
-    step: u64,
-    marks: &[u8],
-) {
+    file: &'a Argument,
+) -> Result<(), Trouble<'a>> {
     let mut out = [0u8; 65536];
-    let record = files::front(cluster, n);
-    if m <= records::LONGEST_PLAN {
-        stopped(
-            rt,
-            err,
-            reserve,
-            record,
-            files::front(plan, m),
-            step,
-            marks,
-            &mut out,
-        );
-    } else {
-        let short = files::stand_in(plan, m);
-        stopped(rt, err, reserve, record, &short, step, marks, &mut out);
+    match stop::outcome_of(reserve, cluster, plan, step, marks, &mut out) {
+        Outcome::Done(length) => {
+            files::save(rt, file, files::front(&out, length))?;
+            let _ = println!(rt; "stopped length {length}");
+        }
+        Outcome::Refused(fault) => files::refused(rt, fault.number(), fault.step()),
     }
+    Ok(())
 }
 
-// The line of a stop in a step with these marks.
-fn run<R: Env + Files + Print, E: Print>(rt: &R, err: &E, reserve: u64, step: u64, marks: &[u8]) {
-    let mut cluster = [0u8; 65536];
-    let mut plan = [0u8; 65536];
-    let first = files::load(rt, err, b"stopped", 1, &mut cluster, files::CLUSTER_ENOUGH);
-    let Size::Bytes(n) = first else {
-        return;
+// More marks than an argument can have are more than a step can have, and are read as none.
+fn run<'a, R: Files + Print>(rt: &R, arguments: &'a [Argument]) -> Result<(), Trouble<'a>> {
+    let [cluster, plan, step, marks, file, rest @ ..] = arguments else {
+        return Err(Trouble::WrongUse(USAGE));
     };
-    let second = files::load(rt, err, b"stopped", 2, &mut plan, files::PLAN_ENOUGH);
-    let Size::Bytes(m) = second else {
-        return;
-    };
-    stopped_files(rt, err, reserve, &cluster, n, &plan, m, step, marks);
-}
-
-// The same with the marks in digits.
-fn run_word<R: Env + Files + Print, E: Print>(
-    rt: &R,
-    err: &E,
-    reserve: u64,
-    step: u64,
-    marks: &mut [u8],
-) {
-    if files::read_digits(err, b"stopped", b"the marks", marks) {
-        run(rt, err, reserve, step, marks);
-    }
-}
-
-// The same with those of the fourth argument. More than the buffer holds are more than a step can have, and are read as none.
-fn run_marked<R: Env + Files + Print, E: Print>(rt: &R, err: &E, reserve: u64, step: u64) {
-    let mut marks = [0u8; 4096];
-    let n = files::read_argument(rt, 4, &mut marks);
-    run_word(rt, err, reserve, step, &mut marks[..n]);
-}
-
-// Whether there are five arguments or six; says what there should be if not.
-fn arguments_fit<R: Env, E: Print>(rt: &R, err: &E) -> bool {
-    if files::has_argument(rt, 5) && !files::has_argument(rt, 7) {
-        return true;
-    }
-    files::put(
-        err,
-        b"stopped: it takes a cluster file, a plan file, a step, marks and a file for the record, and a reserve if one is kept\n",
-    );
-    false
+    let reserve = files::reserve(rest, USAGE)?;
+    let step = files::number("the step", step)?;
+    let marks = files::digits("the marks", marks)?;
+    let mut first = [0u8; 65536];
+    let mut second = [0u8; 65536];
+    let (cluster, plan) = files::load(rt, cluster, plan, &mut first, &mut second)?;
+    stop_in(rt, reserve, cluster, plan, step, marks.text(), file)
 }
 
 fn main(rt: HostRuntime) {
-    let err = rt.stderr();
-    if !arguments_fit(&rt, &err) {
-        return;
-    }
-    let asked = files::load_reserve(&rt, &err, b"stopped", 6);
-    let Number::Is(reserve) = asked else {
-        return;
-    };
-    let found = files::load_number(&rt, &err, b"stopped", b"the step", 3);
-    let Number::Is(step) = found else {
-        return;
-    };
-    run_marked(&rt, &err, reserve, step);
+    let mut read = array::from_fn(|_| Argument::EMPTY);
+    let arguments = files::arguments(&rt, &mut read);
+    files::tell(&rt.stderr(), "stopped", run(&rt, arguments));
 }

@@ -1,67 +1,53 @@
--- Laws on digits by themselves: the pass that tells them, and the one that turns them into their values.
-use Prim.Native.Nat.{ℕ, suc, ◌+◌, ◌-◌, ◌≤◌, ◌<◌}
+-- Laws on turning digits into their values: the first i are turned, the others as they were.
+use Prim.Native.Nat.{ℕ, zero, suc, ◌+◌, ◌-◌, ◌≤◌, ◌<◌}
 use mathlib.Core.Bool.{Bool, true, false, ◌&&◌}
-use mathlib.Core.List.{List, ◌∷◌, map}
-use mathlib.Core.Path.{◌≡◌, sym, ap, ◌∙◌}
+use mathlib.Core.List.{List, [], ◌∷◌, ◌++◌}
+use mathlib.Core.Path.{◌≡◌, refl, ap}
 use native.Mathlib.Numerals.{add-one}
 use native.Mathlib.Omega.{arith}
-use lib.ListN.{length, get_or, set, take, drop, drop_of_length-le, length-map, get_or-map}
-use lib.Seq.{drop-cons, take_all}
-use Rattle.records.specs.Base.{all}
-use Rattle.records.proofs.Laws.Bools.{all-at}
-use Rattle.records.proofs.Laws.Written.{put_one, put_rest}
-use Rattle.files.specs.Number.{is_digit, values_of}
-use Rattle.files.proofs.Laws.Numbers.{digit-least}
+use lib.ListN.{length, get_or, set, take, drop}
+use Rattle.std.specs.List.{list_all}
+use Rattle.std.specs.Char.{is_ascii_digit}
+use Rattle.std.proofs.lemmas.Bool.Decides.{nat_tests}
+use Rattle.files.specs.Number.{values_of}
 
--- ---- the pass that tells them
+abbrev turned : ℕ → List ℕ → List ℕ
+turned i text = values_of (take i text) ++ drop i text
 
-module _ (text : List ℕ) (i c : ℕ) (is result : Bool) (e : is ≡ is_digit c) (f : c ≡ get_or text i 0) (inv : all is_digit (drop i text) ≡ result) (h : i < length text) where
-  digits-cons : (is && all is_digit (drop (suc i) text)) ≡ result
-  unfolding all
-  digits-cons = rw (e, f) (rw (drop-cons text i 0 h) at inv)
+turned-at : (text : List ℕ) (i : ℕ) → i < length text → get_or (turned i text) i 0 ≡ get_or text i 0
+turned-at [] i h = absurd (omega arith)
+turned-at (c ∷ cs) zero h = refl
+turned-at (c ∷ cs) (suc i) h = turned-at cs i (omega arith)
 
-  pub digits-not : is ≡ false → false ≡ result
-  digits-not q = simp q at digits-cons
+turned-set : (text : List ℕ) (i : ℕ) → i < length text → set (turned i text) i (get_or text i 0 - 48) ≡ turned (suc i) text
+turned-set [] i h = absurd (omega arith)
+turned-set (c ∷ cs) zero h = refl
+turned-set (c ∷ cs) (suc i) h = ap (λ (l : List ℕ). (c - 48) ∷ l) (turned-set cs i (omega arith))
 
-  pub digits_more : is ≡ true → all is_digit (drop (i + 1) text) ≡ result
-  digits_more q = rw add-one (simp q at digits-cons)
+pub turned-end : (text : List ℕ) (i : ℕ) → length text ≤ i → turned i text ≡ values_of text
+turned-end [] zero h = refl
+turned-end [] (suc i) h = refl
+turned-end (c ∷ cs) zero h = absurd (omega arith)
+turned-end (c ∷ cs) (suc i) h = ap (λ (l : List ℕ). (c - 48) ∷ l) (turned-end cs i (omega arith))
 
-pub digits-end : (text : List ℕ) (i : ℕ) (result : Bool) → all is_digit (drop i text) ≡ result → length text ≤ i → true ≡ result
-unfolding all
-digits-end text i result inv h = rw (drop_of_length-le text h) at inv
+digit-range : (c : ℕ) → is_ascii_digit c ≡ true → (48 ≤ c) × (c < 58)
+digit-range c h = grind (arith, nat_tests)
 
-pub digits-all : (text : List ℕ) (ok : Bool) → ok ≡ all is_digit text → ok ≡ true → all is_digit text ≡ true
-digits-all text ok e o = sym e ∙ o
+both : (a b : Bool) → (a && b) ≡ true → (a ≡ true) × (b ≡ true)
+both true b h = (refl, h)
+both false b h = grind arith
 
--- ---- the one that turns them into their values: the first i are turned, the others as they were
+-- each of them is a character 0 to 9
+pub digit-at : (text : List ℕ) (i : ℕ) → list_all is_ascii_digit text ≡ true → i < length text → (48 ≤ get_or text i 0) × (get_or text i 0 < 58)
+digit-at [] i d h = absurd (omega arith)
+digit-at (c ∷ cs) zero d h = digit-range c (both (is_ascii_digit c) (list_all is_ascii_digit cs) d).0
+digit-at (c ∷ cs) (suc i) d h = digit-at cs i (both (is_ascii_digit c) (list_all is_ascii_digit cs) d).1 (omega arith)
 
-module _ (text old : List ℕ) (i c : ℕ) (f : c ≡ get_or text i 0) (rest : drop i text ≡ drop i old) (l : length text ≡ length old) (h : i < length text) where
-  same-digit : c ≡ get_or old i 0
-  same-digit =
-      let a = drop-cons text i 0 h in
-      let k : i < length old = omega arith in
-      let b = drop-cons old i 0 k in
-      let e : get_or text i 0 ∷ drop (suc i) text ≡ get_or old i 0 ∷ drop (suc i) old = sym a ∙ rest ∙ b in
-      let g : get_or text i 0 ≡ get_or old i 0 = cc in
-      f ∙ g
+pub turned_least : (text new : List ℕ) (i : ℕ) → new ≡ turned i text → i < length text → list_all is_ascii_digit text ≡ true → 48 ≤ get_or new i 0
+turned_least text new i e h d = rw (e, turned-at text i h) (digit-at text i d h).0
 
-  pub value-least : all is_digit old ≡ true → 48 ≤ c
-  value-least d = digit-least c (ap is_digit same-digit ∙ all-at is_digit old i 0 d (omega arith))
+pub turned_more : (text new : List ℕ) (i : ℕ) → new ≡ turned i text → i < length text → set new i (get_or new i 0 - 48) ≡ turned (i + 1) text
+turned_more text new i e h = rw (e, turned-at text i h, add-one i) (turned-set text i h)
 
-  pub value-more : take i text ≡ take i (values_of old) → take (i + 1) (set text i (c - 48)) ≡ take (i + 1) (values_of old)
-  unfolding values_of
-  value-more inv =
-      let k : i < length (map (λ d. d - 48) old) = rw (length-map old (λ d. d - 48)) (omega arith) in
-      let v : c - 48 ≡ get_or (map (λ d. d - 48) old) i 0 = ap (λ (d : ℕ). d - 48) same-digit ∙ sym (get_or-map (λ d. d - 48) old i 0) in
-      put_one (map (λ d. d - 48) old) text i (c - 48) v inv h k
-
-pub value-end : (text old : List ℕ) (i : ℕ) → take i text ≡ take i (values_of old) → length text ≡ length old → length text ≤ i → text ≡ values_of old
-unfolding values_of
-value-end text old i inv l h =
-    let k : length (map (λ d. d - 48) old) ≤ i = rw (length-map old (λ d. d - 48)) (omega arith) in
-    sym (take_all i text h) ∙ inv ∙ take_all i (map (λ d. d - 48) old) k
-
--- the laws that the proofs of the two passes rest on
-pub ruleset told = (digits-not, digits_more, digits-end, digits-all)
-
-pub ruleset turned = (value-least, value-more, value-end, put_rest)
+-- the laws that the proof of `to_values` rests on
+pub ruleset turning = (turned_least, turned_more, turned-end)

@@ -12,7 +12,7 @@ use Rattle.records.specs.Base.{all, sum_of}
 use Rattle.records.specs.Bytes.{byte_at, be16, be24, be32, known_version}
 use Rattle.records.specs.Plan.{step_count, steps_from, steps_end, steps_of, move_total, shaped, plan_check, longest_plan}
 use Rattle.records.specs.declared.faults.PlanFault.TheVariants.{Length, Shape}
-use Rattle.records.specs.declared.faults.PlanCheck.TheVariants.{Damaged}
+use Rattle.std.specs.Prelude.{Err}
 use Rattle.records.proofs.Laws.Steps.{shape-most, plan-version, plan-length, plan-shape}
 use Rattle.files.specs.Long.{Alike}
 
@@ -32,11 +32,11 @@ module _ (file first : List ℕ) (e : take 5 file ≡ take 5 first) where
 
 -- ---- what is lent in its place: 8 bytes that state their own length, or another
 
-told-at-fault : (version : ℕ) → known_version version ≡ true → plan_check (version ∷ 0 ∷ 0 ∷ 0 ∷ 8 ∷ 0 ∷ 0 ∷ 0 ∷ []) ≡ Damaged Shape
+told-at-fault : (version : ℕ) → known_version version ≡ true → plan_check (version ∷ 0 ∷ 0 ∷ 0 ∷ 8 ∷ 0 ∷ 0 ∷ 0 ∷ []) ≡ Err Shape
 unfolding plan_check be32 be24 be16 shaped steps_of steps_from steps_end move_total sum_of all
 told-at-fault version e = rw e refl
 
-untold-at-fault : (version : ℕ) → known_version version ≡ true → plan_check (version ∷ 0 ∷ 0 ∷ 0 ∷ 0 ∷ 0 ∷ 0 ∷ 0 ∷ []) ≡ Damaged Length
+untold-at-fault : (version : ℕ) → known_version version ≡ true → plan_check (version ∷ 0 ∷ 0 ∷ 0 ∷ 0 ∷ 0 ∷ 0 ∷ 0 ∷ []) ≡ Err Length
 unfolding plan_check be32 be24 be16 shaped steps_of steps_from steps_end move_total sum_of all
 untold-at-fault version e = rw e refl
 

@@ -12,7 +12,8 @@ use lib.Dec.{ltb, eqb}
 use borrow.Author.Tests.{eqb-true, eqb-false, not-true, le-leb, eq-eqb}
 use Rattle.records.specs.Base.{pick, all, sum_of}
 use Rattle.records.specs.Room.{Room, on_node}
-use Rattle.records.specs.Plan.{Move, Step, move_total, sized, shaped}
+use Rattle.records.specs.Plan.{Step, move_total, sized, shaped}
+use Rattle.records.specs.declared.plan.Move.{Move}
 use Rattle.records.specs.Inner.{tells_sources}
 use Rattle.records.proofs.Laws.Bools.{and_left, and_right, and_both, all_head, all_tail}
 use Rattle.rules.specs.Moments.{Placement, place_of, target_of, after}

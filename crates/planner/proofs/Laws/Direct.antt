@@ -11,7 +11,8 @@ use lib.Dec.{ltb, eqb}
 use borrow.Author.Tests.{lt-ltb, eq-eqb}
 use Rattle.records.specs.Base.{pick, all}
 use Rattle.records.specs.Room.{Room, nowhere, on_node}
-use Rattle.records.specs.Plan.{Move, Step}
+use Rattle.records.specs.Plan.{Step}
+use Rattle.records.specs.declared.plan.Move.{Move}
 use Rattle.records.proofs.Laws.Bools.{and_left, and_right, and_both}
 use Rattle.rules.specs.Moments.{Placement, place_of, target_of, bears_at}
 use Rattle.rules.specs.Orders.{some, meets_mate}

@@ -9,23 +9,20 @@ use native.Mathlib.Omega.{arith}
 use lib.ListN.{length}
 use lib.Dec.{ltb, eqb}
 use borrow.Author.Tests.{ltb-true, lt-ltb, eqb-true, eqb-false, eq-eqb, ne_eqb, not-true, not-false}
+use Rattle.std.specs.Prelude.{Ok}
 use Rattle.records.specs.Base.{pick, all}
-use Rattle.records.specs.Room.{Constraint, ban, fence, spread, latency, before, Room, Node, Vm, vm_of, node_of, vms_of, has, nowhere, on_node, room_at, room_of, node_count, vm_count, cluster_check}
-use Rattle.records.specs.declared.faults.ClusterCheck.TheVariants.{Whole}
+use Rattle.records.specs.Room.{Constraint, ban, fence, spread, latency, before, Room, Node, Vm, vm_of, node_of, vms_of, has, nowhere, on_node, IsSound}
 use Rattle.records.proofs.Laws.Bools.{and_left, and_right, and_both, all_head, all_tail, all_more}
-use Rattle.records.proofs.Laws.Cluster.{vm-target-place}
-use Rattle.records.proofs.Laws.Reserve.{room-nodes, room-vms}
 use Rattle.records.proofs.Laws.Rows.{place-either}
 use Rattle.rules.specs.Moments.{Placement, place_of, target_of, at_target, within, within_memory, within_cpu, is_idle, bears, bears_at, with_vm, staying, waiting, cell, number_of, counts_on, tally_at, phase_of, cells_from, first_moment, at_rest, begun, all_running}
 use Rattle.rules.specs.Orders.{some, spreads, mates, meets_mate}
 use Rattle.rules.specs.Rules.{keeps_from, allowed, aims, spread_out, on_nodes, keeps, fits_all, target_check, puts, waits_for}
 use Rattle.rules.specs.declared.tally.Tally.{Tally}
-use Rattle.rules.specs.declared.faults.TargetCheck.TheVariants.{Good}
 use Rattle.rules.proofs.Laws.Adding.{joins, alone, tally-there}
 use Rattle.rules.proofs.Laws.Bound.{first-there, first-other}
 use Rattle.rules.proofs.Laws.Meet.{is_false}
 use Rattle.rules.proofs.Laws.Orders.{Under, empty, both, meets_under, bears-under}
-use Rattle.rules.proofs.Laws.Places.{target-there}
+use Rattle.rules.proofs.Laws.Places.{target_at}
 use Rattle.rules.proofs.Laws.Stricter.{good-target}
 use Rattle.planner.specs.Picks.{away, moving, can_go}
 use Rattle.planner.specs.Inner.{holds_back, held_back}
@@ -272,26 +269,24 @@ module _ (room : Room) (places : Placement) (v : ℕ) (t : v < length room.vms) 
       (and_both allows (and_both fits-there (and_both (ap not unmet-there) (lone-turn room places v (place_of (target_of room) v) out ∙ ap not free)))))
 
 -- a VM can be sent to its target
-aims-target : (reserve : ℕ) (s : List ℕ) (v : ℕ) → cluster_check s ≡ Whole → v < vm_count s → aims (room_at reserve s) v (place_of (target_of (room_at reserve s)) v) ≡ true
+aims-target : (room : Room) (v : ℕ) → IsSound room → v < length room.vms → aims room v (place_of (target_of room) v) ≡ true
 unfolding aims
-aims-target reserve s v w h =
-    let c = room-nodes reserve s in
-    let e = target-there reserve s v in
-    ⊎_elim (λ x. rw (lt-ltb (place_of (target_of (room_at reserve s)) v) (length (room_at reserve s).nodes) (omega arith)))
-    (λ x. rw (eq-eqb (place_of (target_of (room_at reserve s)) v) nowhere (e ∙ x)) (or-true (ltb (place_of (target_of (room_at reserve s)) v) (length (room_at reserve s).nodes))))
-    (place-either (node_count s) (vm_of (room_of s) v).target (vm-target-place s v w h))
+aims-target room v w h =
+    let e = target_at room v in
+    ⊎_elim (λ x. rw (lt-ltb (place_of (target_of room) v) (length room.nodes) (rw e x)))
+    (λ x. rw (eq-eqb (place_of (target_of room) v) nowhere (e ∙ x)) (or-true (ltb (place_of (target_of room) v) (length room.nodes))))
+    (place-either (length room.nodes) (vm_of room v).target (w.targets v h))
 
--- of a cluster record and a target without fault 8 or 9, at any placement: if VM v is out of place and nobody else is, it can go. There is room for it
+-- of a room and a target without fault 8 or 9, at any placement: if VM v is out of place and nobody else is, it can go. There is room for it
 -- where it is wanted, since the others are there for good and the target fits (8); no ban, fence or mate keeps it away, since the target keeps the
 -- constraints (9); and whoever it waits for is on its target, since that is another VM (7) and only v is not. So the planner never blocks, nor
 -- pivots, with one VM out of place, and the bound on its steps is what it is without VMs that wait
-pub last_one : (reserve : ℕ) (s : List ℕ) (places : Placement) (v : ℕ) → cluster_check s ≡ Whole → target_check (room_at reserve s) ≡ Good → v < length (room_at reserve s).vms →
-    away (room_at reserve s) places v ≡ true → ((u : ℕ) → u < length (room_at reserve s).vms → (u ≡ v → ⊥) → away (room_at reserve s) places u ≡ false) →
-    can_go (room_at reserve s) places v ≡ true
+pub last_one : (room : Room) (places : Placement) (v : ℕ) → IsSound room → target_check room ≡ Ok tt → v < length room.vms →
+    away room places v ≡ true → ((u : ℕ) → u < length room.vms → (u ≡ v → ⊥) → away room places u ≡ false) →
+    can_go room places v ≡ true
 unfolding target_check away
-last_one reserve s places v w good h out others =
-    let room = room_at reserve s in
+last_one room places v w good h out others =
     let g = good-target (fits_all room (target_of room)) (all (keeps (target_of room)) room.constraints) good in
-    last_goes room places v h g.0 g.1 (aims-target reserve s v w (rw (room-vms reserve s) at h)) out
+    last_goes room places v h g.0 g.1 (aims-target room v w h) out
     (λ u k n. eqb-true (place_of places u) (place_of (target_of room) u) (not-false (at_target room places u) (others u k n)))
-    (λ first p. (first-there reserve s w first v p, first-other reserve s w first v p))
+    (λ first p. (first-there room w first v p, first-other room w first v p))

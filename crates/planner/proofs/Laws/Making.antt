@@ -1,25 +1,23 @@
 -- Laws on the steps as they are made and written: the next step, and one turn after the other.
 use Prim.Native.Nat.{ℕ, zero, suc, ◌+◌, ◌*◌, ◌≤◌, ◌<◌}
-use mathlib.Core.Bool.{Bool, true, false, ◌&&◌, ◌||◌, false≢true}
+use mathlib.Core.Bool.{Bool, true, false, not, ◌&&◌, ◌||◌, false≢true}
 use mathlib.Core.List.{List, [], ◌∷◌, ◌++◌, append-nil}
 use mathlib.Core.Logic.{by_cases}
 use mathlib.Core.Path.{◌≡◌, refl, sym, ap, ap₂, ◌∙◌}
 use native.Mathlib.Decide.{ℕ_discrete}
 use native.Mathlib.Omega.{arith}
-use lib.ListN.{length, get_or, set, length-append, get_or-replicate}
+use lib.ListN.{length, get_or, set, length-append, length-set, get_or-replicate}
 use lib.Seq.{get_or-set_same, get_or-set_other}
 use lib.Dec.{ltb, eqb}
-use borrow.Author.Tests.{ltb-true, lt-ltb, eqb-true}
-use mir.Syntax.{w64}
-use mir.Val.{Fits}
+use borrow.Author.Tests.{ltb-true, lt-ltb, eqb-true, ne_eqb}
+use Rattle.std.specs.Prelude.{Option, Some, None}
+use Rattle.std.specs.List.{list_any}
+use Rattle.std.proofs.lemmas.List.Folds.{list_any_at}
 use Rattle.records.specs.Base.{all, sum_of}
 use Rattle.records.specs.Bytes.{bytes16}
-use Rattle.records.specs.Room.{Room, nowhere, room_of, room_at, vm_count, cluster_check}
+use Rattle.records.specs.Room.{Room, IsSound, nowhere}
 use Rattle.records.specs.Plan.{Step, with_sources, move_total, moves_bytes, step_bytes, steps_bytes, written, written_width}
 use Rattle.records.specs.Inner.{tells_sources}
-use Rattle.records.specs.declared.faults.ClusterCheck.TheVariants.{Whole}
-use Rattle.records.proofs.Laws.Cluster.{nodes-most, vms-most}
-use Rattle.records.proofs.Laws.Reserve.{room-nodes, room-vms}
 use Rattle.records.proofs.Laws.Steps.{total-append}
 use Rattle.records.proofs.Laws.RoundTrip.{moves-length, steps-bytes-length, bytes-append}
 use Rattle.records.proofs.Laws.Written.{written_next, written-earlier, written-length}
@@ -28,9 +26,8 @@ use Rattle.rules.specs.Rules.{aims, named, sound_step}
 use Rattle.rules.specs.Verdict.{home}
 use Rattle.rules.specs.Promises.{after_all}
 use Rattle.rules.specs.Inner.{held, Placed, array_of, dests_from}
-use Rattle.rules.proofs.Laws.Reserve.{current-same, home_same, named-same}
 use Rattle.rules.proofs.Laws.Fit.{dests-length}
-use Rattle.rules.proofs.Laws.Orders.{named-least, named-vm, named-sends, named-off, named-rest, named-cons, after-length}
+use Rattle.rules.proofs.Laws.Orders.{never, named-least, named-vm, named-sends, named-off, named-rest, named-cons, after-length}
 use Rattle.records.proofs.Laws.Bools.{and_left, and_both}
 use Rattle.rules.proofs.Laws.Adding.{all_snoc}
 use Rattle.rules.proofs.Laws.Runs.{after-all-snoc}
@@ -40,7 +37,7 @@ use Rattle.rules.proofs.Laws.Turns.{after-held, after-placed}
 use Rattle.rules.proofs.Laws.Verdicts.{current-length}
 use Rattle.planner.specs.Picks.{moving, direct_step, pivot_step, or_else, from_places, next_step, Picks, picked}
 use Rattle.planner.specs.Answer.{steps_for, least_buffer}
-use Rattle.planner.specs.Inner.{bare, move_in, moves_in, Trailed}
+use Rattle.planner.specs.Inner.{bare, move_in, moves_in, array_for, Trailed}
 use Rattle.planner.proofs.Laws.Budget.{next-sound, budget, budget-511, turn-budget, picks-unique, picks-steps, picks-shaped, Leads, leads-start, leads-turn, leads-end}
 use Rattle.planner.proofs.Laws.Direct.{direct-sound}
 use Rattle.planner.proofs.Laws.Lone.{held-length}
@@ -106,65 +103,98 @@ module _ (room : Room) (places : Placement) (few : length room.nodes ≤ 64) (mo
           more rest)
 
 -- the moves of the array of a sound step are its moves, without their sources
-pub moves-back : (reserve : ℕ) (s places dests : List ℕ) (n : ℕ) (step : Step) → dests ≡ dests_from step → n ≡ vm_count s → cluster_check s ≡ Whole →
-    sound_step (room_at reserve s) (held s places) step ≡ true → moves_in dests 0 n ≡ bare step
-moves-back reserve s places dests n step e q w sound =
-    let a = nodes-most s w in let b = vms-most s w in let c = room-nodes reserve s in let d = room-vms reserve s in
-    rw e (moves_from (room_at reserve s) (held s places) (omega arith) (omega arith) n 0 0 step (omega arith) (omega arith) (sound-named (room_at reserve s) (held s places) step sound))
+pub moves-back : (room : Room) (places dests : List ℕ) (n : ℕ) (step : Step) → dests ≡ dests_from step → n ≡ length room.vms → IsSound room →
+    sound_step room (held room places) step ≡ true → moves_in dests 0 n ≡ bare step
+moves-back room places dests n step e q w sound =
+    rw e (moves_from room (held room places) w.nodes-most w.vms-most n 0 0 step (omega arith) (omega arith) (sound-named room (held room places) step sound))
+
+-- the array of a sound step has a destination exactly if the step has a move
+goes-somewhere : (room : Room) (places : Placement) (w : IsSound room) (least : ℕ) (step : Step) → named room places least step ≡ true →
+    list_any (λ d. not (eqb d 64)) (dests_from step) ≡ ltb 0 (length step)
+unfolding dests_from
+goes-somewhere room places w least [] n = refl
+goes-somewhere room places w least (move ∷ moves) n =
+    let m = w.vms-most in let t = named-vm room places least move moves n in
+    let l : move.vm < length (set (dests_from moves) move.vm move.to) = rw (length-set (dests_from moves) move.vm move.to, dests-length moves) (omega arith) in
+    list_any_at (λ d. not (eqb d 64)) (set (dests_from moves) move.vm move.to) move.vm 0 l
+    (rw (get_or-set_same (dests_from moves) move.vm move.to 0 (rw (dests-length moves) (omega arith)), ne_eqb move.to 64 (aims-64 room move.vm move.to w.nodes-most (named-sends room places least move moves n)))) ∙
+    sym (lt-ltb 0 (length (move ∷ moves)) (omega arith))
 
 -- ---- the next step
 
-module _ (reserve : ℕ) (s places dests : List ℕ) (n : ℕ) (ok : Bool) (o : ok ≡ ltb 0 (length (moves_in dests 0 n))) (e : dests ≡ dests_from (direct_step (room_at reserve s) (held s places)))
-    (q : n ≡ vm_count s) (w : cluster_check s ≡ Whole) where
-  ok-is : ok ≡ ltb 0 (length (direct_step (room_at reserve s) (held s places)))
-  ok-is =
-      o ∙ ap (λ (x : Step). ltb 0 (length x)) (moves-back reserve s places dests n (direct_step (room_at reserve s) (held s places)) e q w (direct-sound (room_at reserve s) (held s places))) ∙
-      ap (ltb 0) (bare-length (direct_step (room_at reserve s) (held s places)))
-
-  pub next-direct : ok ≡ true → dests ≡ dests_from (next_step (room_at reserve s) (held s places))
-  unfolding next_step or_else
-  next-direct t =
-      e ∙ ap dests_from (go (direct_step (room_at reserve s) (held s places)) (sym ok-is ∙ t)) ∙
-      sym (from-dests (held s places) (or_else (direct_step (room_at reserve s) (held s places)) (pivot_step (room_at reserve s) (held s places))))
+-- a step as an array, if it has a move
+module _ (step : Step) (r : Option (List ℕ)) (e : r ≡ array_for step) where
+  pub array-none : r ≡ None → step ≡ []
+  unfolding array_for
+  array-none q = go step (sym q ∙ e)
     where
-      go : (step : Step) → ltb 0 (length step) ≡ true → step ≡ or_else step (pivot_step (room_at reserve s) (held s places))
+      go : (step : Step) → None ≡ array_for step → step ≡ []
+      go [] f = refl
+      go (move ∷ moves) f = never (cc)
+
+  pub array-some : (dests : List ℕ) → r ≡ Some dests → (dests ≡ dests_from step) × (0 < length step)
+  unfolding array_for
+  array-some dests q = go step (sym q ∙ e)
+    where
+      go : (step : Step) → Some dests ≡ array_for step → (dests ≡ dests_from step) × (0 < length step)
+      go [] f = never (cc)
+      go (move ∷ moves) f = (cc, omega arith)
+
+-- its sources do not matter
+array-from : (places : Placement) (step : Step) → array_for (from_places places step) ≡ array_for step
+unfolding array_for from_places with_sources dests_from
+array-from places [] = refl
+array-from places (move ∷ moves) = ap (λ (x : List ℕ). Some (set x move.vm move.to)) (from-dests places moves)
+
+module _ (room : Room) (places dests : List ℕ) (ok : Bool) (o : ok ≡ list_any (λ d. not (eqb d 64)) dests) (e : dests ≡ dests_from (direct_step room (held room places)))
+    (w : IsSound room) where
+  ok-is : ok ≡ ltb 0 (length (direct_step room (held room places)))
+  ok-is =
+      o ∙ rw e (goes-somewhere room (held room places) w 0 (direct_step room (held room places))
+      (sound-named room (held room places) (direct_step room (held room places)) (direct-sound room (held room places))))
+
+  pub next-direct : ok ≡ true → Some dests ≡ array_for (next_step room (held room places))
+  unfolding next_step or_else array_for
+  next-direct t = rw e (go (direct_step room (held room places)) (sym ok-is ∙ t) ∙ sym (array-from (held room places) (or_else (direct_step room (held room places)) (pivot_step room (held room places)))))
+    where
+      go : (step : Step) → ltb 0 (length step) ≡ true → Some (dests_from step) ≡ array_for (or_else step (pivot_step room (held room places)))
       go [] f = absurd (let l = ltb-true 0 0 f in omega arith)
       go (move ∷ moves) f = refl
 
-  pub next-none : ok ≡ false → direct_step (room_at reserve s) (held s places) ≡ []
-  next-none t = go (direct_step (room_at reserve s) (held s places)) (sym ok-is ∙ t)
+  pub next-none : ok ≡ false → direct_step room (held room places) ≡ []
+  next-none t = go (direct_step room (held room places)) (sym ok-is ∙ t)
     where
       go : (step : Step) → ltb 0 (length step) ≡ false → step ≡ []
       go [] f = refl
       go (move ∷ moves) f = absurd (false≢true (sym f ∙ lt-ltb 0 (length (move ∷ moves)) (omega arith)))
 
-  pub next-pivot : (r : List ℕ) → r ≡ dests_from (pivot_step (room_at reserve s) (held s places)) → ok ≡ false → r ≡ dests_from (next_step (room_at reserve s) (held s places))
+  pub next-pivot : (r : Option (List ℕ)) → r ≡ array_for (pivot_step room (held room places)) → ok ≡ false → r ≡ array_for (next_step room (held room places))
   unfolding next_step or_else
-  next-pivot r f t = f ∙ rw (next-none t) (sym (from-dests (held s places) (pivot_step (room_at reserve s) (held s places))))
+  next-pivot r f t = f ∙ rw (next-none t) (sym (array-from (held room places) (pivot_step room (held room places))))
 
 -- ---- the turns
 
 -- the steps made so far, in the buffer behind the place of the header, and where they lead
-pub record Making (reserve : ℕ) (s before out places : List ℕ) (end steps moves : ℕ) : Type 0 where
+pub record Making (room : Room) (before out places : List ℕ) (end steps moves : ℕ) : Type 0 where
   pub done : List Step
   pub buffer : out ≡ written before 7 (steps_bytes done)
   pub ends : end ≡ 7 + length (steps_bytes done)
   pub counted : steps ≡ length done
   pub summed : moves ≡ move_total done
   pub tells : all tells_sources done ≡ true
-  pub placed : Placed s places
+  pub placed : Placed room places
   pub size : length places ≡ 256
-  pub here : held s places ≡ after_all (current_of (room_at reserve s)) done
-  pub leads : Leads (room_at reserve s) (current_of (room_at reserve s)) done (held s places)
+  pub here : held room places ≡ after_all (current_of room) done
+  pub leads : Leads room (current_of room) done (held room places)
   pub fewer : steps ≤ moves
-  pub spare : moves + budget (room_at reserve s) (held s places) ≤ 511
+  pub spare : moves + budget room (held room places) ≤ 511
 
-pub making-start : (reserve : ℕ) (s before places : List ℕ) → places ≡ array_of (current_of (room_of s)) → length places ≡ 256 → cluster_check s ≡ Whole → least_buffer ≤ length before →
-    Making reserve s before before places 7 0 0
+pub making-start : (room : Room) (before places : List ℕ) → places ≡ array_of (current_of room) → length places ≡ 256 → IsSound room → least_buffer ≤ length before →
+    Making room before before places 7 0 0
 unfolding steps_bytes move_total sum_of after_all all
-making-start reserve s before places a z w b =
-    let h = current-holds s places a w in
-    let m = vms-most s w in let n = room-vms reserve s in let k = budget-511 (room_at reserve s) (held s places) (omega arith) in
+making-start room before places a z w b =
+    let h = current-holds room places a w in
+    let m = w.vms-most in let k = budget-511 room (held room places) (omega arith) in
     record {
       done = [];
       buffer = sym (written_none before 7 (omega arith));
@@ -174,8 +204,8 @@ making-start reserve s before places a z w b =
       tells = refl;
       placed = h.placed;
       size = z;
-      here = h.is ∙ sym (current-same reserve (room_of s));
-      leads = rw (h.is, ← current-same reserve (room_of s)) (leads-start (room_at reserve s) (current_of (room_at reserve s)));
+      here = h.is;
+      leads = rw h.is (leads-start room (current_of room));
       fewer = omega arith;
       spare = omega arith;
     }
@@ -201,54 +231,44 @@ step-written before a step n h =
     written_next before 7 a (bytes16 (length step) ++ moves_bytes step) (omega arith)
 
 -- a turn that has a next step
-module _ (reserve : ℕ) (s before out places dests : List ℕ) (end steps moves vms : ℕ) (ok : Bool) (inv : Making reserve s before out places end steps moves)
-    (e : dests ≡ dests_from (next_step (room_at reserve s) (held s places))) (o : ok ≡ ltb 0 (length (moves_in dests 0 vms))) (q : vms ≡ vm_count s) (w : cluster_check s ≡ Whole) where
-  step-bare : moves_in dests 0 vms ≡ bare (next_step (room_at reserve s) (held s places))
-  step-bare = moves-back reserve s places dests vms (next_step (room_at reserve s) (held s places)) e q w (next-sound (room_at reserve s) (held s places))
+module _ (room : Room) (before out places dests : List ℕ) (end steps moves vms : ℕ) (r : Option (List ℕ)) (inv : Making room before out places end steps moves)
+    (e : r ≡ array_for (next_step room (held room places))) (q : vms ≡ length room.vms) (w : IsSound room) (t : r ≡ Some dests) where
+  step-bare : moves_in dests 0 vms ≡ bare (next_step room (held room places))
+  step-bare = moves-back room places dests vms (next_step room (held room places)) (array-some (next_step room (held room places)) r e dests t).0 q w (next-sound room (held room places))
 
-  length-is : length (moves_in dests 0 vms) ≡ length (next_step (room_at reserve s) (held s places))
-  length-is = ap length step-bare ∙ bare-length (next_step (room_at reserve s) (held s places))
+  length-is : length (moves_in dests 0 vms) ≡ length (next_step room (held room places))
+  length-is = ap length step-bare ∙ bare-length (next_step room (held room places))
 
-  well-named : named (room_of s) (held s places) 0 (next_step (room_at reserve s) (held s places)) ≡ true
-  well-named =
-      sym (named-same reserve (room_of s) (held s places) 0 (next_step (room_at reserve s) (held s places))) ∙
-      sound-named (room_at reserve s) (held s places) (next_step (room_at reserve s) (held s places)) (next-sound (room_at reserve s) (held s places))
+  well-named : named room (held room places) 0 (next_step room (held room places)) ≡ true
+  well-named = sound-named room (held room places) (next_step room (held room places)) (next-sound room (held room places))
 
-  step_is : from_places places (moves_in dests 0 vms) ≡ next_step (room_at reserve s) (held s places)
+  step_is : from_places places (moves_in dests 0 vms) ≡ next_step room (held room places)
   unfolding next_step
   step_is =
-      ap (from_places places) step-bare ∙ from-bare places (next_step (room_at reserve s) (held s places)) ∙ from-held s places 0 (next_step (room_at reserve s) (held s places)) well-named ∙
-      from-twice (held s places) (held s places) (or_else (direct_step (room_at reserve s) (held s places)) (pivot_step (room_at reserve s) (held s places)))
+      ap (from_places places) step-bare ∙ from-bare places (next_step room (held room places)) ∙ from-held room places 0 (next_step room (held room places)) well-named ∙
+      from-twice (held room places) (held room places) (or_else (direct_step room (held room places)) (pivot_step room (held room places)))
 
-  tells-next : tells_sources (next_step (room_at reserve s) (held s places)) ≡ true
+  tells-next : tells_sources (next_step room (held room places)) ≡ true
   unfolding next_step
-  tells-next = from-tells (held s places) (or_else (direct_step (room_at reserve s) (held s places)) (pivot_step (room_at reserve s) (held s places)))
+  tells-next = from-tells (held room places) (or_else (direct_step room (held room places)) (pivot_step room (held room places)))
 
-  -- the end
-  pub last_none : ok ≡ false → next_step (room_at reserve s) (held s places) ≡ []
-  last_none t = go (next_step (room_at reserve s) (held s places)) (ap (ltb 0) (sym length-is) ∙ sym o ∙ t)
-    where
-      go : (step : Step) → ltb 0 (length step) ≡ false → step ≡ []
-      go [] f = refl
-      go (move ∷ rest) f = absurd (false≢true (sym f ∙ lt-ltb 0 (length (move ∷ rest)) (omega arith)))
+  module _ (b : least_buffer ≤ length before) where
+    some : 0 < length (next_step room (held room places))
+    some = (array-some (next_step room (held room places)) r e dests t).1
 
-  module _ (t : ok ≡ true) (b : least_buffer ≤ length before) where
-    some : 0 < length (next_step (room_at reserve s) (held s places))
-    some = ltb-true 0 (length (next_step (room_at reserve s) (held s places))) (ap (ltb 0) (sym length-is) ∙ sym o ∙ t)
-
-    not_none : next_step (room_at reserve s) (held s places) ≡ [] → ⊥
+    not_none : next_step room (held room places) ≡ [] → ⊥
     not_none z = let l = some in let k = ap length z in omega arith
 
-    size_is : length (held s places) ≡ length (room_at reserve s).vms
-    size_is = held-length reserve s places inv.size w
+    size_is : length (held room places) ≡ length room.vms
+    size_is = held-length room places inv.size w
 
-    falls : budget (room_at reserve s) (after (held s places) (next_step (room_at reserve s) (held s places))) + length (next_step (room_at reserve s) (held s places)) ≤ budget (room_at reserve s) (held s places)
-    falls = turn-budget (room_at reserve s) (held s places) size_is (next_step (room_at reserve s) (held s places)) refl not_none
+    falls : budget room (after (held room places) (next_step room (held room places))) + length (next_step room (held room places)) ≤ budget room (held room places)
+    falls = turn-budget room (held room places) size_is (next_step room (held room places)) refl not_none
 
     end_is : end ≡ 7 + steps * 2 + moves * written_width
     end_is = let a = steps-bytes-length inv.done inv.tells in let c = inv.ends in let d = inv.counted in let f = inv.summed in omega arith
 
-    room-left : end + 2 + length (next_step (room_at reserve s) (held s places)) * written_width ≤ length before
+    room-left : end + 2 + length (next_step room (held room places)) * written_width ≤ length before
     room-left = let a = end_is in let c = falls in let d = inv.spare in let f = inv.fewer in let g = some in omega arith
 
     out-size : length out ≡ length before
@@ -258,48 +278,42 @@ module _ (reserve : ℕ) (s before out places dests : List ℕ) (end steps moves
     turn-room = let a = out-size in let r = room-left in rw length-is (omega arith)
 
     module _ (n : ℕ) (c : n ≡ length (moves_in dests 0 vms)) where
-      n-is : n ≡ length (next_step (room_at reserve s) (held s places))
+      n-is : n ≡ length (next_step room (held room places))
       n-is = c ∙ length-is
 
       pub turn_low : end + 2 + n * written_width ≤ length before
       turn_low = let a = n-is in let r = room-left in omega arith
 
-      pub steps_low : Fits w64 (steps + 1)
-      steps_low = let a = inv.spare in let d = inv.fewer in record { fits = omega arith }
-
-      pub moves-low : Fits w64 (moves + n)
-      moves-low = let a = inv.spare in let d = falls in let f = n-is in record { fits = omega arith }
-
       module _ (more : List ℕ) (m : more ≡ written out (end + 2) (moves_bytes (from_places places (moves_in dests 0 vms)))) where
         more-size : length more ≡ length before
         more-size =
-            let a = out-size in let r = room-left in let k = moves-length (next_step (room_at reserve s) (held s places)) tells-next in
+            let a = out-size in let r = room-left in let k = moves-length (next_step room (held room places)) tells-next in
             ap length m ∙ written-length out (end + 2) (moves_bytes (from_places places (moves_in dests 0 vms))) (rw step_is (omega arith)) ∙ out-size
 
         pub turn-fits : end + 2 + n * written_width ≤ length more
         turn-fits = let a = more-size in let r = turn_low in omega arith
 
-        module _ (whole next : List ℕ) (r : ℕ) (g : r ≡ end + 2 + n * written_width) (x : whole ≡ written more end (bytes16 n)) (y : next ≡ after places (moves_in dests 0 vms)) where
-          all-written : whole ≡ written before 7 (steps_bytes (inv.done ++ (next_step (room_at reserve s) (held s places) ∷ [])))
+        module _ (whole next : List ℕ) (further : ℕ) (g : further ≡ end + 2 + n * written_width) (x : whole ≡ written more end (bytes16 n)) (y : next ≡ after places (moves_in dests 0 vms)) where
+          all-written : whole ≡ written before 7 (steps_bytes (inv.done ++ (next_step room (held room places) ∷ [])))
           all-written =
-              let step = next_step (room_at reserve s) (held s places) in
+              let step = next_step room (held room places) in
               let rest = room-left in let d = inv.ends in
               x ∙ rw (m, step_is, n-is, inv.buffer, d)
               (step-written before (steps_bytes inv.done) step tells-next (omega arith) ∙ ap (written before 7) (sym (bytes-snoc inv.done step)))
 
-          next-is : next ≡ after places (next_step (room_at reserve s) (held s places))
-          next-is = y ∙ ap (after places) step-bare ∙ bare-after places (next_step (room_at reserve s) (held s places))
+          next-is : next ≡ after places (next_step room (held room places))
+          next-is = y ∙ ap (after places) step-bare ∙ bare-after places (next_step room (held room places))
 
-          next-held : held s next ≡ after (held s places) (next_step (room_at reserve s) (held s places))
-          next-held = ap (held s) next-is ∙ after-held s places (held s places) 0 (next_step (room_at reserve s) (held s places)) well-named
+          next-held : held room next ≡ after (held room places) (next_step room (held room places))
+          next-held = ap (held room) next-is ∙ after-held room places (held room places) 0 (next_step room (held room places)) well-named
 
-          pub making-less : budget (room_at reserve s) (held s next) < budget (room_at reserve s) (held s places)
+          pub making-less : budget room (held room next) < budget room (held room places)
           making-less = let a = falls in let b = some in rw next-held (omega arith)
 
-          pub making-turn : Making reserve s before whole next r (steps + 1) (moves + n)
+          pub making-turn : Making room before whole next further (steps + 1) (moves + n)
           unfolding step_bytes bytes16
           making-turn =
-              let step = next_step (room_at reserve s) (held s places) in
+              let step = next_step room (held room places) in
               let a = n-is in let d = some in let f = falls in let i = inv.spare in let j = inv.fewer in
               let size = ap length (bytes-snoc inv.done step) ∙ length-append (steps_bytes inv.done) (step_bytes step) in
               let own = moves-length step tells-next in let k = inv.ends in let l = inv.counted in let u = inv.summed in let v = total-snoc inv.done step in
@@ -311,45 +325,39 @@ module _ (reserve : ℕ) (s before out places dests : List ℕ) (end steps moves
                 counted = omega arith;
                 summed = omega arith;
                 tells = all_snoc tells_sources inv.done step ∙ and_both inv.tells tells-next;
-                placed = rw next-is (after-placed s places (held s places) 0 step well-named inv.placed);
+                placed = rw next-is (after-placed room places (held room places) 0 step well-named inv.placed);
                 size = ap length next-is ∙ after-length places step ∙ inv.size;
-                here = next-held ∙ ap (λ (x : Placement). after x step) inv.here ∙ sym (after-all-snoc (current_of (room_at reserve s)) inv.done step);
-                leads = rw next-held (leads-turn (room_at reserve s) (current_of (room_at reserve s)) inv.done (held s places) step refl not_none inv.leads);
+                here = next-held ∙ ap (λ (x : Placement). after x step) inv.here ∙ sym (after-all-snoc (current_of room) inv.done step);
+                leads = rw next-held (leads-turn room (current_of room) inv.done (held room places) step refl not_none inv.leads);
                 fewer = omega arith;
                 spare = rw next-held (omega arith);
               }
 
 -- ---- the end
 
-module _ (reserve : ℕ) (s before out places : List ℕ) (end steps moves : ℕ) (inv : Making reserve s before out places end steps moves) (w : cluster_check s ≡ Whole)
-    (z : next_step (room_at reserve s) (held s places) ≡ []) where
-  all-picked : Picks (room_at reserve s) (current_of (room_at reserve s)) inv.done
-  all-picked = leads-end (room_at reserve s) (current_of (room_at reserve s)) inv.done (held s places) z inv.leads
+module _ (room : Room) (before out places : List ℕ) (end steps moves : ℕ) (inv : Making room before out places end steps moves) (w : IsSound room)
+    (z : next_step room (held room places) ≡ []) where
+  all-picked : Picks room (current_of room) inv.done
+  all-picked = leads-end room (current_of room) inv.done (held room places) z inv.leads
 
-  start-size : length (current_of (room_at reserve s)) ≡ length (room_at reserve s).vms
-  start-size = current-length (room_at reserve s)
+  start-size : length (current_of room) ≡ length room.vms
+  start-size = current-length room
 
-  done-is : inv.done ≡ steps_for (room_at reserve s)
+  done-is : inv.done ≡ steps_for room
   unfolding steps_for
-  done-is =
-      picks-unique (room_at reserve s) (current_of (room_at reserve s)) inv.done (picked (room_at reserve s) (current_of (room_at reserve s))) all-picked (picks-steps (room_at reserve s) (current_of (room_at reserve s)) start-size)
+  done-is = picks-unique room (current_of room) inv.done (picked room (current_of room)) all-picked (picks-steps room (current_of room) start-size)
 
-  pub making-end : (at_home : Bool) → at_home ≡ home (room_of s) (held s places) → Trailed reserve s before out (record { end = end; steps = steps; moves = moves; home = at_home })
+  pub making-end : (at_home : Bool) → at_home ≡ home room (held room places) → Trailed room before out (record { end = end; steps = steps; moves = moves; home = at_home })
   making-end at_home h =
-      let m = vms-most s w in let n = room-vms reserve s in
+      let m = w.vms-most in
       record {
         buffer = inv.buffer ∙ ap (λ (x : List Step). written before 7 (steps_bytes x)) done-is;
         end = inv.ends ∙ ap (λ (x : List Step). 7 + length (steps_bytes x)) done-is;
         steps = inv.counted ∙ ap length done-is;
         moves = inv.summed ∙ ap move_total done-is;
-        home = h ∙ sym (home_same reserve (room_of s) (held s places)) ∙ ap (home (room_at reserve s)) (inv.here ∙ ap (after_all (current_of (room_at reserve s))) done-is);
+        home = h ∙ ap (home room) (inv.here ∙ ap (after_all (current_of room)) done-is);
         tells = rw (← done-is) inv.tells;
-        shaped = rw (← done-is) (picks-shaped (room_at reserve s) (omega arith) (current_of (room_at reserve s)) inv.done start-size all-picked);
+        shaped = rw (← done-is) (picks-shaped room (omega arith) (current_of room) inv.done start-size all-picked);
         steps-most = rw (← done-is) (let a = inv.spare in let b = inv.counted in let c = inv.fewer in omega arith);
         moves-most = rw (← done-is) (let a = inv.spare in let b = inv.summed in omega arith);
       }
-
-pub making-length : (reserve : ℕ) (s before out places : List ℕ) (end steps moves : ℕ) → Making reserve s before out places end steps moves → least_buffer ≤ length before → length out ≡ length before
-making-length reserve s before out places end steps moves inv b =
-    let a = steps-bytes-length inv.done inv.tells in let c = inv.counted in let d = inv.summed in let e = inv.fewer in let f = inv.spare in
-    ap length inv.buffer ∙ written-length before 7 (steps_bytes inv.done) (omega arith)

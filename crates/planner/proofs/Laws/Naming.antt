@@ -1,20 +1,19 @@
 -- Laws on a step whose moves name their sources: where their VMs are.
-use Prim.Native.Nat.{ℕ, suc, ◌*◌, ◌<◌}
+use Prim.Native.Nat.{ℕ, suc, ◌*◌}
 use mathlib.Core.Bool.{true}
 use mathlib.Core.List.{List, [], ◌∷◌, ◌++◌}
 use mathlib.Core.Path.{◌≡◌, refl, sym, ap, ap₂, ◌∙◌}
-use native.Mathlib.Omega.{arith}
-use lib.ListN.{length, get_or}
+use lib.ListN.{length}
 use lib.Seq.{get_or-take}
 use borrow.Author.Tests.{eq-eqb}
 use Rattle.records.specs.Base.{all}
-use Rattle.records.specs.Room.{Room, room_of, vm_count}
-use Rattle.records.specs.Plan.{Move, Step, with_sources, moves_bytes, written_width}
+use Rattle.records.specs.Room.{Room}
+use Rattle.records.specs.Plan.{Step, with_sources, moves_bytes, written_width}
+use Rattle.records.specs.declared.plan.Move.{Move}
 use Rattle.records.specs.Inner.{tells_source, tells_sources}
 use Rattle.records.specs.declared.plan.Source.{Source}
 use Rattle.records.specs.declared.plan.Source.TheVariants.{Unnamed, Named}
 use Rattle.records.proofs.Laws.Bools.{and_both}
-use Rattle.records.proofs.Laws.Cluster.{vms-count}
 use Rattle.records.proofs.Laws.RoundTrip.{moves-length}
 use Rattle.rules.specs.Moments.{Placement, place_of, after}
 use Rattle.rules.specs.Rules.{named, is_place, sourced, sound_step}
@@ -81,16 +80,13 @@ unfolding from_places
 from-sound room places step = sound-unread (λ move. Named (place_of places move.vm)) room places step
 
 -- an array names as the placement that it holds
-pub from-held : (s places : List ℕ) (least : ℕ) (step : Step) → named (room_of s) (held s places) least step ≡ true → from_places places step ≡ from_places (held s places) step
+pub from-held : (room : Room) (places : List ℕ) (least : ℕ) (step : Step) → named room (held room places) least step ≡ true → from_places places step ≡ from_places (held room places) step
 unfolding from_places with_sources held
-from-held s places least [] n = refl
-from-held s places least (move ∷ moves) n =
-    let h = named-vm (room_of s) (held s places) least move moves n in
-    ap₂ (λ (p : ℕ) (x : Step). record { vm = move.vm; source = Named p; to = move.to } ∷ x) (held_at move.vm (let c = vms-count s in omega arith))
-    (from-held s places (suc move.vm) moves (named-rest (room_of s) (held s places) least move moves n))
-  where
-    held_at : (v : ℕ) → v < vm_count s → get_or places v 0 ≡ get_or (held s places) v 0
-    held_at v h = sym (get_or-take (vm_count s) places v 0 h)
+from-held room places least [] n = refl
+from-held room places least (move ∷ moves) n =
+    ap₂ (λ (p : ℕ) (rest : Step). record { vm = move.vm; source = Named p; to = move.to } ∷ rest)
+    (sym (get_or-take (length room.vms) places move.vm 0 (named-vm room (held room places) least move moves n)))
+    (from-held room places (suc move.vm) moves (named-rest room (held room places) least move moves n))
 
 -- without its sources it has as many moves, the same destinations, and leaves the same placement
 pub bare-length : (step : Step) → length (bare step) ≡ length step

@@ -14,23 +14,6 @@ use Rattle.planner.specs.declared.answer.BuildFault.{BuildFault}
 use Rattle.planner.specs.declared.answer.Answer.{Answer}
 use Rattle.planner.specs.declared.answer.Answer.TheVariants.{Plan, Blocked, Refused}
 
--- what a plan, and blocked, has room for
-module _ (a : Answer) (m : Made) where
-  pub plan-packs : a ≡ Plan m → Packs a → Packs (Plan m)
-  plan-packs e p = rw e at p
-
-  pub blocked-packs : a ≡ Blocked m → Packs a → Packs (Blocked m)
-  blocked-packs e p = rw e at p
-
-  pub plan-packed : (n : ℕ) → a ≡ Plan m → n ≡ packed_made m → n ≡ packed_answer a
-  plan-packed n e f = rw e f
-
-  pub blocked-packed : (n : ℕ) → a ≡ Blocked m → n ≡ packed_made m → 2 ^ 62 + n ≡ packed_answer a
-  blocked-packed n e f = rw (e, f)
-
-pub refused-packed : (a : Answer) (f : BuildFault) (n : ℕ) → a ≡ Refused f → n ≡ build_number f → 2 ^ 63 + n * 65536 ≡ packed_answer a
-refused-packed a f n e g = rw (e, g)
-
 -- ---- taking it apart
 
 number-most : (f : BuildFault) → build_number f < 256

@@ -13,13 +13,13 @@ use Rattle.rules.specs.Moments.{current_of, target_of, after, within, bears, bea
 use Rattle.rules.specs.Orders.{Order, done, next, begins, ends, later, SomeBegin, fits, spreads, some, mates, meets_mate}
 use Rattle.rules.specs.Rules.{keeps_from, allowed, from, fits_all, spread_out, on_nodes, keeps, target_check, aims, named, is_place, sourced, permitted, fitting, unmet, has_move, respects, in_turn, step_check, sound_step}
 use Rattle.rules.specs.Cost.{memory_of, step_cost, cost_from, cost_of}
-use Rattle.rules.specs.Verdict.{home, on_reserve, on_cluster, on_target, on_plan, on_step, steps_verdict, plan_verdict, verdict_of, packed}
+use Rattle.rules.specs.Verdict.{home, on_reserve, on_check, steps_verdict, plan_verdict, verdict_of, packed}
 use Rattle.rules.specs.Returned.{told_outcome, told_number, told_step, told_steps, told_moves, told_cost, SaysGood, SaysBlocked, SaysRefused}
 use Rattle.rules.specs.Promises.{after_all, EveryRun}
 use Rattle.rules.specs.declared.faults.Verdict.{Verdict}
 use Rattle.rules.proofs.Laws.Verdicts.{exact-holds, only-holds}
 use Rattle.planner.specs.Picks.{moving, away, away_count, can_go, joined, joined_all, direct_step, other_goes, useful, or_else, pivot_among, pivot_first, pivot_step, from_places, next_step, onward, picked_within, picked}
-use Rattle.planner.specs.Answer.{steps_for, made_of, outcome, answer_reserve, answer_cluster, answer_target, answer_of, buffer_of, packed_answer, least_buffer}
+use Rattle.planner.specs.Answer.{steps_for, made_of, outcome, answer_reserve, answer_check, answer_of, buffer_of, packed_answer, least_buffer}
 use Rattle.planner.specs.Promises.{Stuck}
 use Rattle.planner.proofs.Laws.Promised.{rest-stuck}
 
@@ -161,7 +161,7 @@ pub record OnPaper : Type 0 where
   pub last-plain : AcceptedAt cluster_last plain_last 12
 
 pub on-paper : OnPaper
-unfolding all sum_of be16 be24 be32 on_node node_of vm_of usable usable_node at_reserve vms_of rows node_row vm_row part_at parts_from parts_end parts_of vms_at nodes_at groups_from groups_end constraint_of lists_end room_of knows_nowhere counts_ok place_ok vm_ok above rises list_ok has disjoint apart constraint_ok filled well_formed cluster_check known_version names_sources move_width source_at move_at step_at steps_from steps_end steps_of move_total sized shaped plan_check current_of target_of after within bears bears_at counts_on tally_at phase_of cells_from first_moment begun all_running spreads some mates meets_mate keeps_from allowed from fits_all spread_out on_nodes keeps target_check aims named is_place sourced permitted fitting unmet has_move respects in_turn step_check memory_of step_cost cost_from cost_of home on_reserve on_cluster on_target on_plan on_step steps_verdict plan_verdict verdict_of cluster_a plan_a plan_empty plan_both plan_via plan_stale plain_a plain_empty plain_both plain_last cluster_last plan_last cluster_none banned mated away_count away can_go joined joined_all direct_step other_goes useful or_else pivot_among pivot_first pivot_step with_sources from_places next_step onward picked_within picked steps_for made_of outcome answer_reserve answer_cluster answer_target answer_of buffer_of sound_step bytes16 bytes32 source_bytes move_bytes moves_bytes step_bytes steps_bytes header_bytes record_bytes plan_bytes plan_one after_all fits told_outcome told_number told_step told_steps told_moves told_cost
+unfolding all sum_of be16 be24 be32 on_node node_of vm_of usable usable_node at_reserve vms_of rows node_row vm_row part_at parts_from parts_end parts_of vms_at nodes_at groups_from groups_end constraint_of lists_end room_of knows_nowhere counts_ok place_ok vm_ok above rises list_ok has disjoint apart constraint_ok filled well_formed cluster_check known_version names_sources move_width source_at move_at step_at steps_from steps_end steps_of move_total sized shaped plan_check current_of target_of after within bears bears_at counts_on tally_at phase_of cells_from first_moment begun all_running spreads some mates meets_mate keeps_from allowed from fits_all spread_out on_nodes keeps target_check aims named is_place sourced permitted fitting unmet has_move respects in_turn step_check memory_of step_cost cost_from cost_of home on_reserve on_check steps_verdict plan_verdict verdict_of cluster_a plan_a plan_empty plan_both plan_via plan_stale plain_a plain_empty plain_both plain_last cluster_last plan_last cluster_none banned mated away_count away can_go joined joined_all direct_step other_goes useful or_else pivot_among pivot_first pivot_step with_sources from_places next_step onward picked_within picked steps_for made_of outcome answer_reserve answer_check answer_of buffer_of sound_step bytes16 bytes32 source_bytes move_bytes moves_bytes step_bytes steps_bytes header_bytes record_bytes plan_bytes plan_one after_all fits told_outcome told_number told_step told_steps told_moves told_cost
 on-paper = record {
   a-planned = record { outcome = refl; steps = refl; moves = refl; cost = refl; written = refl; accepted = record { outcome = refl; cost = refl; runs = accepted-runs (cluster_a 40 0 4 4 4 []) plan_a 16 refl } };
   a-touched = λ before z e. let two : 2 ≡ byte_at before 0 = ap (λ (l : List ℕ). byte_at l 0) e in omega arith;

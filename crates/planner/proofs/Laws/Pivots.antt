@@ -1,7 +1,7 @@
 -- Laws on pivots: the step that is picked; and, where no direct move is sound, that a pivot of a VM helps at every node that it may go to, or at none
 -- of them.
 use Prim.Native.Nat.{ℕ, zero, suc, ◌+◌, ◌≤◌, ◌<◌}
-use mathlib.Core.Bool.{Bool, true, false, not, ◌&&◌, ◌||◌, or-true, and-true, and-false, false≢true}
+use mathlib.Core.Bool.{Bool, true, false, cond, not, ◌&&◌, ◌||◌, or-true, and-true, and-false, false≢true}
 use mathlib.Core.List.{List, [], ◌∷◌}
 use mathlib.Core.Logic.{◌⊎◌, inl, inr, ⊎_elim, by_cases}
 use mathlib.Core.Path.{◌≡◌, refl, sym, ap, ◌∙◌}
@@ -10,10 +10,12 @@ use native.Mathlib.Omega.{arith}
 use lib.ListN.{length, set}
 use lib.Seq.{get_or-set_same, get_or-set_other}
 use lib.Dec.{ltb, eqb}
-use borrow.Author.Tests.{ltb-true, lt-ltb, le-ltb, eqb-true, eqb-false, eq-eqb, not-true}
+use borrow.Author.Tests.{ltb-true, lt-ltb, eqb-true, eqb-false, eq-eqb, not-true}
+use Rattle.std.specs.Prelude.{Option, Some, None, find}
 use Rattle.records.specs.Base.{pick, all}
 use Rattle.records.specs.Room.{Room, vm_of, nowhere, on_node}
-use Rattle.records.specs.Plan.{Move, Step}
+use Rattle.records.specs.Plan.{Step}
+use Rattle.records.specs.declared.plan.Move.{Move}
 use Rattle.records.proofs.Laws.Bools.{and_left, and_right, and_both, bool_iff, all_head, all_tail}
 use Rattle.rules.specs.Moments.{Placement, place_of, target_of, at_target, after, bears_at, with_vm, staying, cell, Moment, counts_on, tally_at, phase_of, cells_from, first_moment, begun, all_running}
 use Rattle.rules.specs.Orders.{some, meets_mate}
@@ -110,23 +112,24 @@ pub record IsPivot (room : Room) (places : Placement) (move : Move) (moves : Ste
 
 -- ---- the pivots of one VM
 
+-- the step of a VM's pivot, if it has one
+abbrev pub lone : ℕ → Option ℕ → Step
+lone v None = []
+lone v (Some d) = moving v d ∷ []
+
 module _ (room : Room) (places : Placement) (v : ℕ) where
   -- the step of the first useful pivot, by its node
-  pub among-is : (ds : List ℕ) → all (λ d. ltb d (length room.nodes)) ds ≡ true →
-      pivot_among room places v ds ≡ pick (ltb (useful_node room places v ds) (length room.nodes)) (moving v (useful_node room places v ds) ∷ []) []
+  pub among-is : (ds : List ℕ) → pivot_among room places v ds ≡ lone v (useful_node room places v ds)
   unfolding pivot_among useful_node
-  among-is [] b = rw (le-ltb (length room.nodes) (length room.nodes) (omega arith))
-  among-is (d ∷ ds) b =
-      go (useful room places v d) (pivot_among room places v ds) (useful_node room places v ds) (all_head _ d ds b) (among-is ds (all_tail _ d ds b))
+  among-is [] = refl
+  among-is (d ∷ ds) = go (useful room places v d) (pivot_among room places v ds) (find (useful room places v) ds) (among-is ds)
     where
-      go : (b : Bool) (step : Step) (e : ℕ) → ltb d (length room.nodes) ≡ true → step ≡ pick (ltb e (length room.nodes)) (moving v e ∷ []) [] →
-          pick b (moving v d ∷ []) step ≡ pick (ltb (pick b d e) (length room.nodes)) (moving v (pick b d e) ∷ []) []
-      go true step e l i = rw l
-      go false step e l i = i
+      go : (b : Bool) (step : Step) (e : Option ℕ) → step ≡ lone v e → pick b (moving v d ∷ []) step ≡ lone v (cond b (Some d) e)
+      go true step e i = refl
+      go false step e i = i
 
-  pub pivot-among : pivot_among room places v (nodes_in room) ≡
-      pick (ltb (useful_node room places v (nodes_in room)) (length room.nodes)) (moving v (useful_node room places v (nodes_in room)) ∷ []) []
-  pivot-among = among-is (nodes_in room) (nodes-below room)
+  pub pivot-among : pivot_among room places v (nodes_in room) ≡ lone v (useful_node room places v (nodes_in room))
+  pivot-among = among-is (nodes_in room)
 
   -- a step that is picked is one useful pivot
   among-moves : (ds : List ℕ) (move : Move) (moves : Step) → pivot_among room places v ds ≡ move ∷ moves → IsPivot room places move moves
@@ -344,67 +347,65 @@ module _ (room : Room) (places : Placement) (v : ℕ) where
 
 module _ (room : Room) (places : Placement) (v : ℕ) where
   -- what the node found has passed
-  node-aside : (ds : List ℕ) → pivot_node room places v ds < length room.nodes → aside room places v (pivot_node room places v ds) ≡ true
-  unfolding pivot_node
-  node-aside [] h = absurd (omega arith)
-  node-aside (d ∷ ds) h = go (aside room places v d) refl h (node-aside ds)
+  node-passed : (p : ℕ → Bool) (d : ℕ) (ds : List ℕ) → all (λ e. ltb e (length room.nodes)) ds ≡ true → find p ds ≡ Some d → (p d ≡ true) × (d < length room.nodes)
+  node-passed p d [] b e = never (cc)
+  node-passed p d (x ∷ xs) b e = go (p x) refl e (node-passed p d xs (all_tail _ x xs b))
     where
-      go : (b : Bool) → aside room places v d ≡ b → pick b d (pivot_node room places v ds) < length room.nodes →
-          (pivot_node room places v ds < length room.nodes → aside room places v (pivot_node room places v ds) ≡ true) →
-          aside room places v (pick b d (pivot_node room places v ds)) ≡ true
-      go true e h later = e
-      go false e h later = later h
+      go : (t : Bool) → p x ≡ t → cond t (Some x) (find p xs) ≡ Some d → (find p xs ≡ Some d → (p d ≡ true) × (d < length room.nodes)) → (p d ≡ true) × (d < length room.nodes)
+      go true q e later = let m : x ≡ d = cc in (rw m at q, rw m at (ltb-true x (length room.nodes) (all_head _ x xs b)))
+      go false q e later = later e
 
-  node-aside-at : (d : ℕ) → d ≡ pivot_node room places v (nodes_in room) → d < length room.nodes → aside room places v d ≡ true
-  node-aside-at d e h = rw (← e) at (node-aside (nodes_in room) (rw (← e) h))
+  pub useful-node-there : (d : ℕ) → useful_node room places v (nodes_in room) ≡ Some d → d < length room.nodes
+  unfolding useful_node
+  useful-node-there d e = (node-passed (useful room places v) d (nodes_in room) (nodes-below room) e).1
 
-  pub pivot-node-sound : (d : ℕ) → d ≡ pivot_node room places v (nodes_in room) → d < length room.nodes → sound_step room places (moving v d ∷ []) ≡ true
-  unfolding aside
-  pivot-node-sound d e h =
-      and_right (not (eqb d (place_of (target_of room) v))) (sound_step room places (moving v d ∷ [])) (node-aside-at d e h)
+  module _ (d : ℕ) (at : pivot_node room places v (nodes_in room) ≡ Some d) where
+    node-is : (aside room places v d ≡ true) × (d < length room.nodes)
+    unfolding pivot_node
+    node-is = node-passed (aside room places v) d (nodes_in room) (nodes-below room) at
 
-  pub pivot-node-off : (d : ℕ) → d ≡ pivot_node room places v (nodes_in room) → d < length room.nodes → d ≡ place_of (target_of room) v → ⊥
-  unfolding aside
-  pivot-node-off d e h =
-      eqb-false d (place_of (target_of room) v) (not-true (eqb d (place_of (target_of room) v)) (and_left (not (eqb d (place_of (target_of room) v))) _ (node-aside-at d e h)))
+    pub pivot-node-there : d < length room.nodes
+    pivot-node-there = node-is.1
+
+    pub pivot-node-off : d ≡ place_of (target_of room) v → ⊥
+    unfolding aside
+    pivot-node-off =
+        eqb-false d (place_of (target_of room) v) (not-true (eqb d (place_of (target_of room) v)) (and_left (not (eqb d (place_of (target_of room) v))) _ node-is.0))
 
   -- it is the first useful one if every such node is useful
-  first-aside : ((d : ℕ) → useful room places v d ≡ aside room places v d) → (ds : List ℕ) → pivot_node room places v ds ≡ useful_node room places v ds
-  unfolding pivot_node useful_node
+  first-aside : ((d : ℕ) → useful room places v d ≡ aside room places v d) → (ds : List ℕ) → find (aside room places v) ds ≡ find (useful room places v) ds
   first-aside n [] = refl
-  first-aside n (d ∷ ds) = rw (n d) (ap (pick (aside room places v d) d) (first-aside n ds))
+  first-aside n (d ∷ ds) = rw (n d) (ap (cond (aside room places v d) (Some d)) (first-aside n ds))
 
   -- without such a node none is useful
-  none-aside : (ds : List ℕ) → all (λ d. ltb d (length room.nodes)) ds ≡ true → length room.nodes ≤ pivot_node room places v ds → length room.nodes ≡ useful_node room places v ds
-  unfolding pivot_node useful_node
-  none-aside [] b h = refl
-  none-aside (d ∷ ds) b h =
-      go (aside room places v d) refl (ltb-true d (length room.nodes) (all_head _ d ds b)) h
-      (none-aside ds (all_tail _ d ds b))
+  none-aside : (ds : List ℕ) → find (aside room places v) ds ≡ None → find (useful room places v) ds ≡ None
+  none-aside [] h = refl
+  none-aside (d ∷ ds) h = go (aside room places v d) refl h (none-aside ds)
     where
-      go : (t : Bool) → aside room places v d ≡ t → d < length room.nodes → length room.nodes ≤ pick t d (pivot_node room places v ds) →
-          (length room.nodes ≤ pivot_node room places v ds → length room.nodes ≡ useful_node room places v ds) →
-          length room.nodes ≡ pick (useful room places v d) d (useful_node room places v ds)
-      go true e l h later = absurd (omega arith)
-      go false e l h later = rw (useful-is room places v d, e, and-false (away room places v && on_node (place_of places v))) (later h)
+      go : (t : Bool) → aside room places v d ≡ t → cond t (Some d) (find (aside room places v) ds) ≡ None → (find (aside room places v) ds ≡ None → find (useful room places v) ds ≡ None) →
+          cond (useful room places v d) (Some d) (find (useful room places v) ds) ≡ None
+      go true e h later = never (cc)
+      go false e h later = rw (useful-is room places v d, e, and-false (away room places v && on_node (place_of places v))) (later h)
 
-  useful-none : ((d : ℕ) → useful room places v d ≡ false) → (ds : List ℕ) → length room.nodes ≡ useful_node room places v ds
-  unfolding useful_node
+  useful-none : ((d : ℕ) → useful room places v d ≡ false) → (ds : List ℕ) → find (useful room places v) ds ≡ None
   useful-none n [] = refl
   useful-none n (d ∷ ds) = rw (n d) (useful-none n ds)
 
-  pub useful-home : away room places v ≡ false → length room.nodes ≡ useful_node room places v (nodes_in room)
-  useful-home a = useful-none (λ d. useful-is room places v d ∙ rw a) (nodes_in room)
+  pub useful-home : away room places v ≡ false → None ≡ useful_node room places v (nodes_in room)
+  unfolding useful_node
+  useful-home a = sym (useful-none (λ d. useful-is room places v d ∙ rw a) (nodes_in room))
 
-  pub useful-down : on_node (place_of places v) ≡ false → length room.nodes ≡ useful_node room places v (nodes_in room)
-  useful-down o = useful-none (λ d. useful-is room places v d ∙ rw (o, and-false (away room places v))) (nodes_in room)
+  pub useful-down : on_node (place_of places v) ≡ false → None ≡ useful_node room places v (nodes_in room)
+  unfolding useful_node
+  useful-down o = sym (useful-none (λ d. useful-is room places v d ∙ rw (o, and-false (away room places v))) (nodes_in room))
 
-  pub useful-nobody : (d : ℕ) → d ≡ pivot_node room places v (nodes_in room) → length room.nodes ≤ d → length room.nodes ≡ useful_node room places v (nodes_in room)
-  useful-nobody d e h = none-aside (nodes_in room) (nodes-below room) (rw (← e) h)
+  pub useful-nobody : pivot_node room places v (nodes_in room) ≡ None → None ≡ useful_node room places v (nodes_in room)
+  unfolding pivot_node useful_node
+  useful-nobody e = sym (none-aside (nodes_in room) e)
 
   module _ (len : length places ≡ length room.vms) (none : (u : ℕ) → can_go room places u ≡ false) (d : ℕ) (then : Placement) (ok : Bool)
-      (at : d ≡ pivot_node room places v (nodes_in room)) (m : then ≡ set places v d) (c : ok ≡ comes_to room then v (place_of places v) (vms_in room))
-      (a : away room places v ≡ true) (o : on_node (place_of places v) ≡ true) (h : d < length room.nodes) where
+      (at : pivot_node room places v (nodes_in room) ≡ Some d) (m : then ≡ set places v d) (c : ok ≡ comes_to room then v (place_of places v) (vms_in room))
+      (a : away room places v ≡ true) (o : on_node (place_of places v) ≡ true) where
     -- a move aside does not bring v to its target
     pub aside-off : (e : ℕ) → aside room places v e ≡ true → Aside room places v e
     unfolding after aside
@@ -417,7 +418,7 @@ module _ (room : Room) (places : Placement) (v : ℕ) where
     helps-as : (e : ℕ) → aside room places v e ≡ true → other_goes room (after places (moving v e ∷ [])) v ≡ ok
     unfolding after aside
     helps-as e s =
-        let there = node-aside-at d at h in
+        let there = (node-is d at).0 in
         same-help room places v len none e d (aside-off e s) (aside-off d there) (and_right (not (eqb e (place_of (target_of room) v))) _ s) (and_right (not (eqb d (place_of (target_of room) v))) _ there) ∙
         comes-is room places v none d (aside-off d there) ∙
         ap (λ (p : Placement). comes_to room p v (place_of places v) (vms_in room)) (sym m) ∙ sym c
@@ -432,8 +433,10 @@ module _ (room : Room) (places : Placement) (v : ℕ) where
         given true g e = e refl
         given false g e = refl
 
-    pub useful-found : ok ≡ true → d ≡ useful_node room places v (nodes_in room)
-    useful-found x = at ∙ first-aside (λ e. useful-as e ∙ rw x (and-true (aside room places v e))) (nodes_in room)
+    pub useful-found : ok ≡ true → Some d ≡ useful_node room places v (nodes_in room)
+    unfolding pivot_node useful_node
+    useful-found x = sym at ∙ first-aside (λ e. useful-as e ∙ rw x (and-true (aside room places v e))) (nodes_in room)
 
-    pub useful-not : ok ≡ false → length room.nodes ≡ useful_node room places v (nodes_in room)
-    useful-not x = useful-none (λ e. useful-as e ∙ rw x (and-false (aside room places v e))) (nodes_in room)
+    pub useful-not : ok ≡ false → None ≡ useful_node room places v (nodes_in room)
+    unfolding useful_node
+    useful-not x = sym (useful-none (λ e. useful-as e ∙ rw x (and-false (aside room places v e))) (nodes_in room))

@@ -18,12 +18,12 @@ and_right false b e = let z : ◌≡◌ {A = ℕ} 0 1 = cc in absurd (omega arit
 pub and_both : {a b : Bool} → a ≡ true → b ≡ true → (a && b) ≡ true
 and_both e f = simp (e, f)
 
--- two tests that hold together are equal
 -- a choice between the same
 pub pick_same : {A : Type 0} (b : Bool) (x : A) → pick b x x ≡ x
 pick_same true x = refl
 pick_same false x = refl
 
+-- two tests that hold together are equal
 pub bool_iff : (a b : Bool) → (a ≡ true → b ≡ true) → (b ≡ true → a ≡ true) → a ≡ b
 bool_iff true b f g = sym (f refl)
 bool_iff false true f g = g refl
@@ -42,6 +42,19 @@ module _ {A : Type 0} (p : A → Bool) where
   all-at [] i d e h = absurd (omega arith)
   all-at (x ∷ xs) zero d e h = all_head x xs e
   all-at (x ∷ xs) (suc i) d e h = all-at xs i d (all_tail x xs e) (omega arith)
+
+  -- the turns of a pass over a list, at its first element
+  pub all-not : (x : A) (xs ys : List A) (ok result : Bool) → ys ≡ x ∷ xs → ok ≡ p x → ok ≡ false → all p ys ≡ result → false ≡ result
+  unfolding all
+  all-not x xs ys ok result e f o inv = sym (ap (λ (b : Bool). b && all p xs) (sym f ∙ o)) ∙ sym (ap (all p) e) ∙ inv
+
+  pub all-next : (x : A) (xs ys : List A) (ok result : Bool) → ys ≡ x ∷ xs → ok ≡ p x → ok ≡ true → all p ys ≡ result → all p xs ≡ result
+  unfolding all
+  all-next x xs ys ok result e f o inv = sym (ap (λ (b : Bool). b && all p xs) (sym f ∙ o)) ∙ sym (ap (all p) e) ∙ inv
+
+  pub all-none : (ys : List A) (result : Bool) → ys ≡ [] → all p ys ≡ result → true ≡ result
+  unfolding all
+  all-none ys result e inv = sym (ap (all p) e) ∙ inv
 
   pub all_append : (xs ys : List A) → all p (xs ++ ys) ≡ (all p xs && all p ys)
   unfolding all

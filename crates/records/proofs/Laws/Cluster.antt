@@ -8,14 +8,15 @@ use native.Mathlib.Decide.{dec_lt}
 use native.Mathlib.Omega.{arith}
 use lib.ListN.{length, get_or-eq_default}
 use lib.Dec.{ltb, leb, eqb}
-use borrow.Author.Tests.{lt-ltb, le-ltb, ne_eqb, ltb-false, leb-true, eqb-true, not-false}
+use mir.Syntax.{w8}
+use mir.Val.{Fits}
+use borrow.Author.Tests.{ne_eqb, ltb-false, leb-true, eqb-true, not-false}
 use Rattle.records.specs.Base.{pick, all}
 use Rattle.records.specs.Bytes.{byte_at, be16, be24, be32, version_of, known_version, AreBytes}
-use Rattle.records.specs.Room.{Node, Vm, no_node, no_vm, node_of, vm_of, node_row, vm_row, node_count, vm_count, constraint_count, vms_start, constraints_start, room_of, parts_of, parts_end, knows_nowhere, counts_ok, place_ok, vm_ok, well_formed, cluster_check}
+use Rattle.records.specs.Room.{Node, Vm, no_node, no_vm, node_of, vm_of, node_row, vm_row, node_count, vm_count, constraint_count, vms_start, constraints_start, room_of, parts_of, parts_end, knows_nowhere, length_ok, counts_ok, place_ok, vm_ok, well_formed, cluster_check, ClusterRead}
 use Rattle.records.specs.declared.faults.ClusterFault.{ClusterFault}
 use Rattle.records.specs.declared.faults.ClusterFault.TheVariants.{TooShort, Version, Length, Counts, Fill, VmRow, Constraint}
-use Rattle.records.specs.declared.faults.ClusterCheck.{ClusterCheck}
-use Rattle.records.specs.declared.faults.ClusterCheck.TheVariants.{Whole, Damaged}
+use Rattle.std.specs.Prelude.{Result, Ok, Err, slice_index_or}
 use Rattle.records.proofs.Laws.Bools.{and_left, and_right, all-at}
 use Rattle.records.proofs.Laws.Rows.{rows-length, rows_at, place-below, place-node}
 use Rattle.records.proofs.Laws.Parts.{parts-on}
@@ -35,52 +36,11 @@ module _ (s : List ℕ) (ok : Bool) (e : ok ≡ eqb (parts_end s (constraints_st
   pub filled-rows : constraints_start s ≤ length s
   filled-rows = let w = filled-ends in let v = parts-on s (constraints_start s) (constraint_count s) in omega arith
 
--- ---- each refusal in its turn
+-- ---- reading a record
 
-module _ (s : List ℕ) where
-  pub fault-short : length s < 11 → Damaged TooShort ≡ cluster_check s
-  unfolding cluster_check
-  fault-short h = simp (lt-ltb (length s) 11 h)
-
-  module _ (version : ℕ) (e1 : version ≡ version_of s) (h1 : 11 ≤ length s) (known : Bool) (k1 : known ≡ known_version version) where
-    known_is : known_version (version_of s) ≡ known
-    known_is = rw (← e1) (sym k1)
-
-    pub fault-version : known ≡ false → Damaged Version ≡ cluster_check s
-    unfolding cluster_check
-    fault-version h2 = simp (le-ltb (length s) 11 h1, known_is ∙ h2)
-
-    module _ (wrong : Bool) (e2 : wrong ≡ (not (eqb (be32 s 1) (length s)) || ltb 65535 (be32 s 1))) (h2 : known ≡ true) where
-      pub fault-length : wrong ≡ true → Damaged Length ≡ cluster_check s
-      unfolding cluster_check
-      fault-length h3 = simp (le-ltb (length s) 11 h1, known_is ∙ h2, sym e2 ∙ h3)
-
-      module _ (counts : Bool) (e3 : counts ≡ counts_ok s) (h3 : wrong ≡ false) where
-        pub fault-counts : counts ≡ false → Damaged Counts ≡ cluster_check s
-        unfolding cluster_check
-        fault-counts h4 = simp (le-ltb (length s) 11 h1, known_is ∙ h2, sym e2 ∙ h3, sym e3 ∙ h4)
-
-        module _ (fill : Bool) (e4 : fill ≡ eqb (parts_end s (constraints_start s) (constraint_count s)) (length s)) (h4 : counts ≡ true) where
-          pub fault-fill : fill ≡ false → Damaged Fill ≡ cluster_check s
-          unfolding cluster_check
-          fault-fill h5 = simp (le-ltb (length s) 11 h1, known_is ∙ h2, sym e2 ∙ h3, sym e3 ∙ h4, sym e4 ∙ h5)
-
-          module _ (vms : Bool) (e5 : vms ≡ all (vm_ok (knows_nowhere s) (node_count s)) (room_of s).vms) (h5 : fill ≡ true) where
-            pub fault-row : vms ≡ false → Damaged VmRow ≡ cluster_check s
-            unfolding cluster_check
-            fault-row h6 =
-                simp (le-ltb (length s) 11 h1, known_is ∙ h2, sym e2 ∙ h3, sym e3 ∙ h4, sym e4 ∙ h5, sym e5 ∙ h6)
-
-            module _ (parts : Bool) (e6 : parts ≡ all (well_formed (vm_count s) (node_count s)) (parts_of s)) (h6 : vms ≡ true) where
-              pub fault-constraint : parts ≡ false → Damaged Constraint ≡ cluster_check s
-              unfolding cluster_check
-              fault-constraint h7 =
-                  simp (le-ltb (length s) 11 h1, known_is ∙ h2, sym e2 ∙ h3, sym e3 ∙ h4, sym e4 ∙ h5, sym e5 ∙ h6, sym e6 ∙ h7)
-
-              pub fault-none : parts ≡ true → Whole ≡ cluster_check s
-              unfolding cluster_check
-              fault-none h7 =
-                  simp (le-ltb (length s) 11 h1, known_is ∙ h2, sym e2 ∙ h3, sym e3 ∙ h4, sym e4 ∙ h5, sym e5 ∙ h6, sym e6 ∙ h7)
+-- what is read of a slice is read of bytes
+pub read_as_is : (s : List ℕ) (r : Result (Unit {0}) ClusterFault) → ((i : ℕ) → Fits w8 (slice_index_or s i 0)) → r ≡ cluster_check s → ClusterRead s r
+read_as_is s r b e = record { is = e; bytes = λ i. let w = (b i).fits in omega arith }
 
 -- ---- what an undamaged record has
 
@@ -92,7 +52,7 @@ pub record Undamaged (s : List ℕ) : Type 0 where
   pub rows : all (vm_ok (knows_nowhere s) (node_count s)) (room_of s).vms ≡ true
   pub parts : all (well_formed (vm_count s) (node_count s)) (parts_of s) ≡ true
 
-passed : (test : Bool) (f : ClusterFault) (rest : ClusterCheck) → pick test (Damaged f) rest ≡ Whole → (test ≡ false) × (rest ≡ Whole)
+passed : (test : Bool) (f : ClusterFault) (rest : Result (Unit {0}) ClusterFault) → pick test (Err f) rest ≡ Ok tt → (test ≡ false) × (rest ≡ Ok tt)
 passed true f rest e = let z : ◌≡◌ {A = ℕ} 0 1 = cc in absurd (omega arith)
 passed false f rest e = (refl, e)
 
@@ -100,27 +60,27 @@ pub or-none : (a b : Bool) → (a || b) ≡ false → (a ≡ false) × (b ≡ fa
 or-none true b e = let z : ◌≡◌ {A = ℕ} 0 1 = cc in absurd (omega arith)
 or-none false b e = (refl, e)
 
-pub undamaged : (s : List ℕ) → cluster_check s ≡ Whole → Undamaged s
+pub undamaged : (s : List ℕ) → cluster_check s ≡ Ok tt → Undamaged s
 unfolding cluster_check
 undamaged s w =
     let a = passed (ltb (length s) 11) TooShort _ w in
     let b = passed (not (known_version (version_of s))) Version _ a.1 in
-    let c = passed (not (eqb (be32 s 1) (length s)) || ltb 65535 (be32 s 1)) Length _ b.1 in
+    let c = passed (not (length_ok s)) Length _ b.1 in
     let d = passed (not (counts_ok s)) Counts _ c.1 in
     let e = passed (not (eqb (parts_end s (constraints_start s) (constraint_count s)) (length s))) Fill _ d.1 in
     let f = passed (not (all (vm_ok (knows_nowhere s) (node_count s)) (room_of s).vms)) VmRow _ e.1 in
-    let h = or-none (not (eqb (be32 s 1) (length s))) (ltb 65535 (be32 s 1)) c.0 in
-    let g = passed (not (all (well_formed (vm_count s) (node_count s)) (parts_of s))) Constraint Whole f.1 in
+    let h = not-false (length_ok s) c.0 in
+    let g = passed (not (all (well_formed (vm_count s) (node_count s)) (parts_of s))) Constraint (Ok tt) f.1 in
     record {
       long = ltb-false (length s) 11 a.0;
-      most = rw (← eqb-true (be32 s 1) (length s) (not-false (eqb (be32 s 1) (length s)) h.0)) (ltb-false 65535 (be32 s 1) h.1);
+      most = rw (← eqb-true (be32 s 1) (length s) (and_left (eqb (be32 s 1) (length s)) _ h)) (leb-true (be32 s 1) 65535 (and_right (eqb (be32 s 1) (length s)) _ h));
       counts = not-false (counts_ok s) d.0;
       ends = eqb-true (parts_end s (constraints_start s) (constraint_count s)) (length s) (not-false _ e.0);
       rows = not-false (all (vm_ok (knows_nowhere s) (node_count s)) (room_of s).vms) f.0;
       parts = not-false (all (well_formed (vm_count s) (node_count s)) (parts_of s)) g.0;
     }
 
-module _ (s : List ℕ) (w : cluster_check s ≡ Whole) where
+module _ (s : List ℕ) (w : cluster_check s ≡ Ok tt) where
   pub whole_long : 11 ≤ length s
   whole_long = (undamaged s w).long
 
@@ -204,7 +164,7 @@ module _ (s : List ℕ) (v at : ℕ) (e : at ≡ vms_start s + v * 7) (h : v < v
   vm-target-is r f = f ∙ ap (λ (m : Vm). m.target) row
 
 -- the bounds of an undamaged VM row
-module _ (s : List ℕ) (v : ℕ) (w : cluster_check s ≡ Whole) (h : v < vm_count s) where
+module _ (s : List ℕ) (v : ℕ) (w : cluster_check s ≡ Ok tt) (h : v < vm_count s) where
   vm-ok : vm_ok (knows_nowhere s) (node_count s) (vm_of (room_of s) v) ≡ true
   unfolding vm_of
   vm-ok = all-at (vm_ok (knows_nowhere s) (node_count s)) (room_of s).vms v no_vm (undamaged s w).rows (rw (vms-count s) h)
@@ -238,17 +198,6 @@ module _ (s : List ℕ) (v : ℕ) (w : cluster_check s ≡ Whole) (h : v < vm_co
 
     pub vm-target-node : (vm_of (room_of s) v).target < node_count s
     vm-target-node = place-below (node_count s) (vm_of (room_of s) v).target (ap (λ (k : Bool). place_ok k (node_count s) (vm_of (room_of s) v).target) (sym unknown) ∙ target_ok)
-
--- the same of what an accessor returned
-module _ (s : List ℕ) (v at r : ℕ) (e : at ≡ vms_start s + v * 7) (w : cluster_check s ≡ Whole) (h : v < vm_count s) where
-  pub memory-least : r ≡ be24 s at → 1 ≤ r
-  memory-least f = rw (vm-memory-is s v at e h r f) (vm-memory-least s v w h)
-
-  pub current-place : r ≡ byte_at s (at + 5) → place_ok (knows_nowhere s) (node_count s) r ≡ true
-  current-place f = rw (vm-current-is s v at e h r f) (current-ok s v w h)
-
-  pub target-place : r ≡ byte_at s (at + 6) → place_ok (knows_nowhere s) (node_count s) r ≡ true
-  target-place f = rw (vm-target-is s v at e h r f) (target_ok s v w h)
 
 -- what a VM needs, from the bytes of its row
 pub vm-memory-most : (s : List ℕ) (v : ℕ) → AreBytes s → (vm_of (room_of s) v).memory < 2 ^ 24

@@ -1,6 +1,6 @@
 -- Laws on one constraint: reading its lists one behind the other tells whether it is well formed.
 use Prim.Native.Nat.{ℕ, zero, suc, ◌+◌, ◌-◌, ◌≤◌, ◌<◌}
-use mathlib.Core.Bool.{Bool, true, false, not, ◌&&◌, and-false, and-true}
+use mathlib.Core.Bool.{Bool, true, false, ◌&&◌, and-false, and-true}
 use mathlib.Core.List.{List, []}
 use mathlib.Core.Logic.{◌⊎◌, inl, inr, ⊎_elim, by_cases}
 use mathlib.Core.Path.{◌≡◌, refl, sym, ap, ◌∙◌}
@@ -8,64 +8,42 @@ use native.Mathlib.Decide.{dec_lt, ℕ_discrete}
 use native.Mathlib.Omega.{arith}
 use lib.ListN.{length, take, drop}
 use lib.Dec.{leb, eqb}
-use borrow.Author.Tests.{eq-eqb, ne_eqb, lt-ltb, le-ltb, le-leb, lt-leb, leb-true, leb-false, eqb-true}
+use borrow.Author.Tests.{eq-eqb, ne_eqb, le-leb, lt-leb, leb-true, leb-false, eqb-true}
+use Rattle.std.specs.Option.{option_eq}
+use Rattle.std.specs.Prelude.{Option, Some, None, nat_eq}
 use Rattle.records.specs.Base.{pick, all}
 use Rattle.records.specs.Bytes.{byte_at, be16}
-use Rattle.records.specs.Room.{kind_of, vms_of, nodes_of, groups_of, first_of, second_of, list_ok, apart, vms_at, vms_end, nodes_at, nodes_end, groups_from, groups_end, kind_at, others_at, pair_end, constraint_of, lists_end, constraint_ok, filled, well_formed}
+use Rattle.records.specs.Room.{kind_of, vms_of, nodes_of, groups_of, first_of, second_of, list_ok, apart, vms_at, nodes_at, nodes_end, groups_from, groups_end, kind_at, others_at, pair_end, constraint_of, lists_end, constraint_ok, filled, well_formed}
 use Rattle.records.specs.Inner.{unmarked, listed, groups_read, nodes_ok, groups_ok, others_ok, pair_ok}
 use Rattle.records.specs.declared.constraints.Kind.{Kind}
 use Rattle.records.specs.declared.constraints.Kind.TheVariants.{Ban, Fence, Spread, Latency, Before}
-use Rattle.records.specs.declared.lists.Listed.{Listed}
-use Rattle.records.specs.declared.lists.Listed.TheVariants.{Ends, Bad}
 use Rattle.records.proofs.Laws.Bools.{and_left, and_right}
 use Rattle.records.proofs.Laws.Lists.{listed-pick, found}
 use Rattle.records.proofs.Laws.Groups.{groups-on, groups-are}
 
 -- ---- lists that end at e within the part, with their test: they fill it if they end where it does
 
-module _ (e len : ℕ) (ok : Bool) (r : Listed) (f : r ≡ pick (leb e len && ok) (Ends e) Bad) where
-  fills-ends : (end : ℕ) → r ≡ Ends end → eqb end len ≡ (eqb e len && ok)
-  fills-ends end g = go (leb e len) ok refl refl
-    where
-      go : (a b : Bool) → leb e len ≡ a → ok ≡ b → eqb end len ≡ (eqb e len && ok)
-      go true true x y =
-          let w : r ≡ Ends e = f ∙ simp (x, y) in
-          let v : end ≡ e = cc in
-          rw (v, y) (sym (and-true (eqb e len)))
-      go true false x y =
-          let w : r ≡ Bad = f ∙ simp (x, y) in
-          let z : ◌≡◌ {A = ℕ} 0 1 = cc in absurd (omega arith)
-      go false b x y =
-          let w : r ≡ Bad = f ∙ simp x in
-          let z : ◌≡◌ {A = ℕ} 0 1 = cc in absurd (omega arith)
-
-  fills-bad : r ≡ Bad → false ≡ (eqb e len && ok)
-  fills-bad g = go (leb e len) ok refl refl
-    where
-      go : (a b : Bool) → leb e len ≡ a → ok ≡ b → false ≡ (eqb e len && ok)
-      go true true x y =
-          let w : r ≡ Ends e = f ∙ simp (x, y) in
-          let z : ◌≡◌ {A = ℕ} 0 1 = cc in absurd (omega arith)
-      go true false x y = rw (y, and-false (eqb e len))
-      go false b x y =
-          let w = leb-false e len x in
-          let v : eqb e len ≡ false = ne_eqb e len (λ q. omega arith) in
-          rw v
+fills-is : (e len : ℕ) (ok b : Bool) (r : Option ℕ) → r ≡ pick (leb e len && ok) (Some e) None → b ≡ option_eq nat_eq r (Some len) → b ≡ (eqb e len && ok)
+fills-is e len ok b r f g = g ∙ ap (λ (o : Option ℕ). option_eq nat_eq o (Some len)) f ∙ go (leb e len) ok refl refl
+  where
+    go : (a o : Bool) → leb e len ≡ a → ok ≡ o → option_eq nat_eq (pick (leb e len && ok) (Some e) None) (Some len) ≡ (eqb e len && ok)
+    go true true x y = rw (x, y) (sym (and-true (eqb e len)))
+    go true false x y = rw (x, y) (sym (and-false (eqb e len)))
+    go false o x y =
+        let w = leb-false e len x in
+        let v : eqb e len ≡ false = ne_eqb e len (λ q. omega arith) in
+        rw (x, v)
 
 -- ---- a node list to the end
 
-module _ (limit at : ℕ) (p : List ℕ) (r : Listed) (f : r ≡ listed limit p (at + 1) (byte_at p at)) where
-  nodes-pick : r ≡ pick (leb (nodes_end p at) (length p) && list_ok limit (nodes_at p at)) (Ends (nodes_end p at)) Bad
-  unfolding listed nodes_end nodes_at
+module _ (limit at : ℕ) (p : List ℕ) (r : Option ℕ) (f : r ≡ listed limit p (at + 1) (byte_at p at)) where
+  nodes-pick : r ≡ pick (leb (nodes_end p at) (length p) && list_ok limit (nodes_at p at)) (Some (nodes_end p at)) None
+  unfolding listed nodes_at
   nodes-pick = f
 
-  pub nodes-ends : (end : ℕ) → r ≡ Ends end → eqb end (length p) ≡ nodes_ok limit p at
+  pub nodes-fill : (ok : Bool) → ok ≡ option_eq nat_eq r (Some (length p)) → ok ≡ nodes_ok limit p at
   unfolding nodes_ok
-  nodes-ends end g = fills-ends (nodes_end p at) (length p) (list_ok limit (nodes_at p at)) r nodes-pick end g
-
-  pub nodes-bad : r ≡ Bad → false ≡ nodes_ok limit p at
-  unfolding nodes_ok
-  nodes-bad g = fills-bad (nodes_end p at) (length p) (list_ok limit (nodes_at p at)) r nodes-pick g
+  nodes-fill ok g = fills-is (nodes_end p at) (length p) (list_ok limit (nodes_at p at)) ok r nodes-pick g
 
 -- ---- groups to the end
 
@@ -77,75 +55,23 @@ module _ (limit at : ℕ) (p : List ℕ) where
       let v : eqb (groups_end p (at + 1) (byte_at p at)) (length p) ≡ false = ne_eqb (groups_end p (at + 1) (byte_at p at)) (length p) (λ q. omega arith) in
       rw v
 
-  pub groups-many : (count : ℕ) → count ≡ byte_at p at → 64 < count → false ≡ groups_ok limit p at
+  pub groups-many : (count : ℕ) → count ≡ byte_at p at → 64 < count → leb count 64 ≡ groups_ok limit p at
   unfolding groups_ok
-  groups-many count e h = let w : 64 < byte_at p at = omega arith in simp (lt-leb (byte_at p at) 64 w, and-false)
+  groups-many count e h = let w : 64 < byte_at p at = omega arith in simp (lt-leb count 64 h, lt-leb (byte_at p at) 64 w, and-false)
 
-  module _ (count : ℕ) (r : Listed) (f : r ≡ groups_read limit p unmarked (at + 1) count) (e : count ≡ byte_at p at) (h : limit ≤ 64)
+  module _ (count : ℕ) (r : Option ℕ) (f : r ≡ groups_read limit p unmarked (at + 1) count) (e : count ≡ byte_at p at) (h : limit ≤ 64)
       (w : at < length p) (c : count ≤ 64) where
     groups-pick : r ≡ pick (leb (groups_end p (at + 1) (byte_at p at)) (length p) &&
         (leb (byte_at p at) 64 && (all (list_ok limit) (groups_from p (at + 1) (byte_at p at)) && apart (groups_from p (at + 1) (byte_at p at)))))
-        (Ends (groups_end p (at + 1) (byte_at p at))) Bad
+        (Some (groups_end p (at + 1) (byte_at p at))) None
     groups-pick =
         let c' : byte_at p at ≤ 64 = omega arith in
         let w' : at + 1 ≤ length p = omega arith in
         rw (le-leb (byte_at p at) 64 c') (f ∙ ap (groups_read limit p unmarked (at + 1)) e ∙ groups-are limit p (at + 1) (byte_at p at) h w')
 
-    pub groups-fill : (end : ℕ) → r ≡ Ends end → eqb end (length p) ≡ groups_ok limit p at
+    pub groups-fill : (ok : Bool) → ok ≡ option_eq nat_eq r (Some (length p)) → ok ≡ groups_ok limit p at
     unfolding groups_ok
-    groups-fill end g = fills-ends _ (length p) _ r groups-pick end g
-
-    pub groups-fail : r ≡ Bad → false ≡ groups_ok limit p at
-    unfolding groups_ok
-    groups-fail g = fills-bad _ (length p) _ r groups-pick g
-
--- ---- the lists behind the VM list, by kind
-
-module _ (limit at kind : ℕ) (p : List ℕ) (e : kind ≡ byte_at p 2) where
-  pub kind-spread : kind ≡ 3 → eqb at (length p) ≡ others_ok limit p at
-  unfolding others_ok kind_at
-  kind-spread k = let q : byte_at p 2 ≡ 3 = cc in simp q
-
-  pub kind-latency : (ok : Bool) → ok ≡ groups_ok limit p at → kind ≡ 4 → ok ≡ others_ok limit p at
-  unfolding others_ok kind_at
-  kind-latency ok f k = let q : byte_at p 2 ≡ 4 = cc in simp q f
-
-  pub kind-ban : (ok : Bool) → ok ≡ nodes_ok limit p at → kind ≡ 1 → ok ≡ others_ok limit p at
-  unfolding others_ok kind_at
-  kind-ban ok f k = let q : byte_at p 2 ≡ 1 = cc in simp q f
-
-  pub kind-fence : (ok : Bool) → ok ≡ nodes_ok limit p at → kind ≡ 2 → ok ≡ others_ok limit p at
-  unfolding others_ok kind_at
-  kind-fence ok f k = let q : byte_at p 2 ≡ 2 = cc in simp q f
-
-  pub kind-unknown : (kind ≡ 3 → ⊥) → (kind ≡ 4 → ⊥) → (kind ≡ 1 → ⊥) → (kind ≡ 2 → ⊥) → false ≡ others_ok limit p at
-  unfolding others_ok kind_at
-  kind-unknown a b c d =
-      rw (ne_eqb (byte_at p 2) 3 (λ q. a (e ∙ q)), ne_eqb (byte_at p 2) 4 (λ q. b (e ∙ q)), ne_eqb (byte_at p 2) 1 (λ q. c (e ∙ q)), ne_eqb (byte_at p 2) 2 (λ q. d (e ∙ q)))
-
--- ---- two VMs
-
-module _ (v : ℕ) (p : List ℕ) where
-  pub pair-long : (length p ≡ 5 → ⊥) → false ≡ pair_ok v p
-  unfolding pair_ok
-  pair-long h = rw (ne_eqb pair_end (length p) (λ q. h (sym q)))
-
-  module _ (first : ℕ) (f : first ≡ byte_at p 3) where
-    pub pair-first : v ≤ first → false ≡ pair_ok v p
-    unfolding pair_ok
-    pair-first h = let w : v ≤ byte_at p 3 = omega arith in rw (le-ltb (byte_at p 3) v w, and-false)
-
-    module _ (second : ℕ) (g : second ≡ byte_at p 4) where
-      pub pair-second : v ≤ second → false ≡ pair_ok v p
-      unfolding pair_ok
-      pair-second h = let w : v ≤ byte_at p 4 = omega arith in rw (le-ltb (byte_at p 4) v w, and-false, and-false)
-
-      pub pair-differ : length p ≡ 5 → first < v → second < v → not (eqb first second) ≡ pair_ok v p
-      unfolding pair_ok
-      pair-differ l a b =
-          let a' : byte_at p 3 < v = omega arith in
-          let b' : byte_at p 4 < v = omega arith in
-          rw (l, lt-ltb (byte_at p 3) v a', lt-ltb (byte_at p 4) v b', f, g)
+    groups-fill ok g = fills-is _ (length p) _ ok r groups-pick g
 
 -- ---- the whole constraint
 
@@ -161,7 +87,6 @@ groups-length p at zero = refl
 groups-length p at (suc n) = ap suc (groups-length p (nodes_end p at) n)
 
 nodes-on : (p : List ℕ) (at : ℕ) → at ≤ nodes_end p at
-unfolding nodes_end
 nodes-on p at = omega arith
 
 module _ (v n : ℕ) (p : List ℕ) where
@@ -209,32 +134,29 @@ module _ (v n : ℕ) (p : List ℕ) where
       formed-unknown a b c d f
 
   pub constraint-short : length p < 3 → false ≡ well_formed v n p
-  unfolding vm-list-ok others_at vms_end pair_ok
+  unfolding vm-list-ok pair_ok
   constraint-short h =
       by_cases (ℕ_discrete (kind_at p) 5)
       (λ k. sym (pair-formed-is k ∙ simp (ne_eqb pair_end (length p) (λ q. omega arith))))
       (λ k. let w : length p < 5 + be16 p 3 = omega arith in sym (well-formed-is k ∙ simp (lt-leb (5 + be16 p 3) (length p) w)))
 
-  pub constraint-pair : (kind : ℕ) (ok : Bool) → kind ≡ byte_at p 2 → ok ≡ pair_ok v p → kind ≡ 5 → ok ≡ well_formed v n p
-  constraint-pair kind ok e o k = o ∙ sym (pair-formed-is (sym e ∙ k))
+  pub constraint-pair : (ok : Bool) → ok ≡ pair_ok v p → byte_at p 2 ≡ 5 → ok ≡ well_formed v n p
+  constraint-pair ok o k = o ∙ sym (pair-formed-is k)
 
-  module _ (kind : ℕ) (r : Listed) (e : kind ≡ byte_at p 2) (l : kind ≡ 5 → ⊥) (f : r ≡ listed v p 5 (be16 p 3)) where
-    lists : kind_at p ≡ 5 → ⊥
-    lists q = l (e ∙ q)
-
-    pub constraint-bad : r ≡ Bad → false ≡ well_formed v n p
-    unfolding vm-list-ok others_at vms_end vms_at
+  module _ (r : Option ℕ) (lists : byte_at p 2 ≡ 5 → ⊥) (f : r ≡ listed v p 5 (be16 p 3)) where
+    pub constraint-bad : r ≡ None → false ≡ well_formed v n p
+    unfolding vm-list-ok vms_at
     constraint-bad g = go (leb (5 + be16 p 3) (length p)) (list_ok v (take (be16 p 3) (drop 5 p))) refl refl
       where
         go : (a b : Bool) → leb (5 + be16 p 3) (length p) ≡ a → list_ok v (take (be16 p 3) (drop 5 p)) ≡ b → false ≡ well_formed v n p
         go true true x y =
-            let w : r ≡ Ends (5 + be16 p 3) = f ∙ listed-pick v 5 (be16 p 3) p true true x y in
+            let w : r ≡ Some (5 + be16 p 3) = f ∙ listed-pick v 5 (be16 p 3) p true true x y in
             let z : ◌≡◌ {A = ℕ} 0 1 = cc in absurd (omega arith)
         go true false x y = sym (well-formed-is lists ∙ simp (x, y))
         go false b x y = sym (well-formed-is lists ∙ simp x)
 
-    pub constraint-others : (at : ℕ) (ok : Bool) → ok ≡ others_ok n p at → r ≡ Ends at → ok ≡ well_formed v n p
-    unfolding vm-list-ok others_at vms_end vms_at
+    pub constraint-others : (at : ℕ) (ok : Bool) → ok ≡ others_ok n p at → r ≡ Some at → ok ≡ well_formed v n p
+    unfolding vm-list-ok vms_at
     constraint-others at ok o g =
         let w = found v 5 (be16 p 3) at p r f g in
         o ∙ ap (others_ok n p) w.ends ∙ sym (well-formed-is lists ∙ simp (le-leb (5 + be16 p 3) (length p) w.fits, w.sound))
@@ -274,8 +196,8 @@ module _ (p : List ℕ) (w : filled p ≡ true) where
   unfolding lists_end
   pair-within k = let f : pair_end ≡ length p = simp k at fills in omega arith
 
-  pub kind-within : 5 ≤ length p
-  kind-within =
+  pub kind_within : 5 ≤ length p
+  kind_within =
       by_cases (dec_lt (kind_at p) 5)
       (λ m. let o = others-within m in omega arith)
       (λ m. let l = kind-most in let o = pair-within (omega arith) in omega arith)
@@ -289,68 +211,67 @@ module _ (p : List ℕ) (w : filled p ≡ true) where
       by_cases (ℕ_discrete (kind_at p) 3) (λ k. simp k) λ c.
       let k : kind_at p ≡ 4 = omega arith in simp k
 
-  module _ (kind : ℕ) (e : kind ≡ byte_at p 2) where
-    pub is-ban : kind ≡ 1 → Ban ≡ kind_of (constraint_of p)
-    unfolding constraint_of kind_of
-    is-ban k = let q : byte_at p 2 ≡ 1 = cc in simp q
+  pub is-ban : byte_at p 2 ≡ 1 → Ban ≡ kind_of (constraint_of p)
+  unfolding constraint_of kind_of
+  is-ban q = simp q
 
-    pub is-fence : kind ≡ 2 → Fence ≡ kind_of (constraint_of p)
-    unfolding constraint_of kind_of
-    is-fence k = let q : byte_at p 2 ≡ 2 = cc in simp q
+  pub is-fence : byte_at p 2 ≡ 2 → Fence ≡ kind_of (constraint_of p)
+  unfolding constraint_of kind_of
+  is-fence q = simp q
 
-    pub is-spread : kind ≡ 3 → Spread ≡ kind_of (constraint_of p)
-    unfolding constraint_of kind_of
-    is-spread k = let q : byte_at p 2 ≡ 3 = cc in simp q
+  pub is-spread : byte_at p 2 ≡ 3 → Spread ≡ kind_of (constraint_of p)
+  unfolding constraint_of kind_of
+  is-spread q = simp q
 
-    pub is-latency : kind ≡ 4 → Latency ≡ kind_of (constraint_of p)
-    unfolding constraint_of kind_of
-    is-latency k = let q : byte_at p 2 ≡ 4 = cc in simp q
+  pub is-latency : byte_at p 2 ≡ 4 → Latency ≡ kind_of (constraint_of p)
+  unfolding constraint_of kind_of
+  is-latency q = simp q
 
-    pub is-before : (kind ≡ 1 → ⊥) → (kind ≡ 2 → ⊥) → (kind ≡ 3 → ⊥) → (kind ≡ 4 → ⊥) → Before ≡ kind_of (constraint_of p)
-    unfolding constraint_of kind_of
-    is-before a b c d =
-        rw (ne_eqb (byte_at p 2) 1 (λ q. a (e ∙ q)), ne_eqb (byte_at p 2) 2 (λ q. b (e ∙ q)), ne_eqb (byte_at p 2) 3 (λ q. c (e ∙ q)), ne_eqb (byte_at p 2) 4 (λ q. d (e ∙ q)))
+  pub is-before : (byte_at p 2 ≡ 1 → ⊥) → (byte_at p 2 ≡ 2 → ⊥) → (byte_at p 2 ≡ 3 → ⊥) → (byte_at p 2 ≡ 4 → ⊥) → Before ≡ kind_of (constraint_of p)
+  unfolding constraint_of kind_of
+  is-before a b c d =
+      rw (ne_eqb (byte_at p 2) 1 a, ne_eqb (byte_at p 2) 2 b, ne_eqb (byte_at p 2) 3 c, ne_eqb (byte_at p 2) 4 d)
 
-    -- a constraint of lists has its VM list in front of the others
-    pub vms-part : kind < 5 → (end : ℕ) → end ≡ others_at p → take (end - 5) (drop 5 p) ≡ vms_of (constraint_of p)
-    unfolding vms_at
-    vms-part h end o = let f : end - 5 ≡ be16 p 3 = omega arith in let m : kind_at p < 5 = omega arith in rw (vms-at m, f)
+  -- a constraint of lists has its VM list in front of the others
+  pub vms-part : byte_at p 2 < 5 → (end : ℕ) → end ≡ others_at p → take (end - 5) (drop 5 p) ≡ vms_of (constraint_of p)
+  unfolding vms_at
+  vms-part h end o = let f : end - 5 ≡ be16 p 3 = omega arith in let m : kind_at p < 5 = omega arith in rw (vms-at m, f)
 
-    pub vms-none : 5 ≤ kind → [] ≡ vms_of (constraint_of p)
-    unfolding constraint_of vms_of
-    vms-none h = let l = kind-most in let q : byte_at p 2 ≡ 5 = omega arith in simp q
+  pub vms-none : 5 ≤ byte_at p 2 → [] ≡ vms_of (constraint_of p)
+  unfolding constraint_of vms_of
+  vms-none h = let l = kind-most in let q : byte_at p 2 ≡ 5 = omega arith in simp q
 
-    -- a ban or a fence ends with its node list
-    module _ (h : kind < 3) where
-      two : (byte_at p 2 ≡ 1) ⊎ (byte_at p 2 ≡ 2)
-      two = let l = kind-least in by_cases (ℕ_discrete (byte_at p 2) 1) (λ q. inl q) (λ q. inr (omega arith))
+  -- a ban or a fence ends with its node list
+  module _ (h : byte_at p 2 < 3) where
+    two : (byte_at p 2 ≡ 1) ⊎ (byte_at p 2 ≡ 2)
+    two = let l = kind-least in by_cases (ℕ_discrete (byte_at p 2) 1) (λ q. inl q) (λ q. inr (omega arith))
 
-      node-list-end : nodes_end p (others_at p) ≡ length p
-      unfolding lists_end
-      node-list-end = ⊎_elim (λ (q : byte_at p 2 ≡ 1). simp q at fills) (λ (q : byte_at p 2 ≡ 2). simp q at fills) two
+    node-list-end : nodes_end p (others_at p) ≡ length p
+    unfolding lists_end
+    node-list-end = ⊎_elim (λ (q : byte_at p 2 ≡ 1). simp q at fills) (λ (q : byte_at p 2 ≡ 2). simp q at fills) two
 
-      node-list-is : nodes_of (constraint_of p) ≡ nodes_at p (others_at p)
-      unfolding constraint_of nodes_of
-      node-list-is = ⊎_elim (λ (q : byte_at p 2 ≡ 1). simp q) (λ (q : byte_at p 2 ≡ 2). simp q) two
-
-      pub nodes-start : (at : ℕ) → at ≡ others_at p → at + 1 ≤ length p
-      nodes-start at f = let n = node-list-end in omega arith
-
-      pub nodes-part : (at : ℕ) → at ≡ others_at p → take (length p - (at + 1)) (drop (at + 1) p) ≡ nodes_of (constraint_of p)
-      unfolding nodes_at
-      nodes-part at f =
-          let n = node-list-end in
-          let g : length p - (at + 1) ≡ byte_at p (others_at p) = omega arith in
-          rw (node-list-is, g, f)
-
-    pub nodes-none : 3 ≤ kind → [] ≡ nodes_of (constraint_of p)
+    node-list-is : nodes_of (constraint_of p) ≡ nodes_at p (others_at p)
     unfolding constraint_of nodes_of
-    nodes-none h =
-        let a : byte_at p 2 ≡ 1 → ⊥ = λ q. omega arith in
-        let b : byte_at p 2 ≡ 2 → ⊥ = λ q. omega arith in
-        by_cases (ℕ_discrete (byte_at p 2) 3) (λ q. simp q) λ c.
-        by_cases (ℕ_discrete (byte_at p 2) 4) (λ q. simp q) λ d.
-        rw (ne_eqb (byte_at p 2) 1 a, ne_eqb (byte_at p 2) 2 b, ne_eqb (byte_at p 2) 3 c, ne_eqb (byte_at p 2) 4 d)
+    node-list-is = ⊎_elim (λ (q : byte_at p 2 ≡ 1). simp q) (λ (q : byte_at p 2 ≡ 2). simp q) two
+
+    pub nodes-start : (at : ℕ) → at ≡ others_at p → at + 1 ≤ length p
+    nodes-start at f = let n = node-list-end in omega arith
+
+    pub nodes-part : (at : ℕ) → at ≡ others_at p → take (length p - (at + 1)) (drop (at + 1) p) ≡ nodes_of (constraint_of p)
+    unfolding nodes_at
+    nodes-part at f =
+        let n = node-list-end in
+        let g : length p - (at + 1) ≡ byte_at p (others_at p) = omega arith in
+        rw (node-list-is, g, f)
+
+  pub nodes-none : 3 ≤ byte_at p 2 → [] ≡ nodes_of (constraint_of p)
+  unfolding constraint_of nodes_of
+  nodes-none h =
+      let a : byte_at p 2 ≡ 1 → ⊥ = λ q. omega arith in
+      let b : byte_at p 2 ≡ 2 → ⊥ = λ q. omega arith in
+      by_cases (ℕ_discrete (byte_at p 2) 3) (λ q. simp q) λ c.
+      by_cases (ℕ_discrete (byte_at p 2) 4) (λ q. simp q) λ d.
+      rw (ne_eqb (byte_at p 2) 1 a, ne_eqb (byte_at p 2) 2 b, ne_eqb (byte_at p 2) 3 c, ne_eqb (byte_at p 2) 4 d)
 
   -- a constraint of two VMs ends with them
   module _ (k : kind_of (constraint_of p) ≡ Before) where
@@ -358,10 +279,10 @@ module _ (p : List ℕ) (w : filled p ≡ true) where
     fifth =
         let l = kind-least in
         let m = kind-most in
-        by_cases (ℕ_discrete (kind_at p) 1) (λ q. other Ban (is-ban (kind_at p) refl q) (λ z. let y : ◌≡◌ {A = ℕ} 0 1 = cc in omega arith)) λ a.
-        by_cases (ℕ_discrete (kind_at p) 2) (λ q. other Fence (is-fence (kind_at p) refl q) (λ z. let y : ◌≡◌ {A = ℕ} 0 1 = cc in omega arith)) λ b.
-        by_cases (ℕ_discrete (kind_at p) 3) (λ q. other Spread (is-spread (kind_at p) refl q) (λ z. let y : ◌≡◌ {A = ℕ} 0 1 = cc in omega arith)) λ c.
-        by_cases (ℕ_discrete (kind_at p) 4) (λ q. other Latency (is-latency (kind_at p) refl q) (λ z. let y : ◌≡◌ {A = ℕ} 0 1 = cc in omega arith)) λ d.
+        by_cases (ℕ_discrete (kind_at p) 1) (λ q. other Ban (is-ban q) (λ z. let y : ◌≡◌ {A = ℕ} 0 1 = cc in omega arith)) λ a.
+        by_cases (ℕ_discrete (kind_at p) 2) (λ q. other Fence (is-fence q) (λ z. let y : ◌≡◌ {A = ℕ} 0 1 = cc in omega arith)) λ b.
+        by_cases (ℕ_discrete (kind_at p) 3) (λ q. other Spread (is-spread q) (λ z. let y : ◌≡◌ {A = ℕ} 0 1 = cc in omega arith)) λ c.
+        by_cases (ℕ_discrete (kind_at p) 4) (λ q. other Latency (is-latency q) (λ z. let y : ◌≡◌ {A = ℕ} 0 1 = cc in omega arith)) λ d.
         omega arith
       where
         other : (x : Kind) → x ≡ kind_of (constraint_of p) → (x ≡ Before → ⊥) → kind_at p ≡ 5
@@ -377,21 +298,18 @@ module _ (p : List ℕ) (w : filled p ≡ true) where
 
   -- a latency constraint ends with its groups
   module _ (k : kind_of (constraint_of p) ≡ Latency) where
-    fourth : kind_at p ≡ 4
+    pub fourth : kind_at p ≡ 4
     fourth =
         let l = kind-least in
         let m = kind-most in
-        by_cases (ℕ_discrete (kind_at p) 1) (λ q. other Ban (is-ban (kind_at p) refl q) (λ z. let y : ◌≡◌ {A = ℕ} 0 1 = cc in omega arith)) λ a.
-        by_cases (ℕ_discrete (kind_at p) 2) (λ q. other Fence (is-fence (kind_at p) refl q) (λ z. let y : ◌≡◌ {A = ℕ} 0 1 = cc in omega arith)) λ b.
-        by_cases (ℕ_discrete (kind_at p) 3) (λ q. other Spread (is-spread (kind_at p) refl q) (λ z. let y : ◌≡◌ {A = ℕ} 0 1 = cc in omega arith)) λ c.
+        by_cases (ℕ_discrete (kind_at p) 1) (λ q. other Ban (is-ban q) (λ z. let y : ◌≡◌ {A = ℕ} 0 1 = cc in omega arith)) λ a.
+        by_cases (ℕ_discrete (kind_at p) 2) (λ q. other Fence (is-fence q) (λ z. let y : ◌≡◌ {A = ℕ} 0 1 = cc in omega arith)) λ b.
+        by_cases (ℕ_discrete (kind_at p) 3) (λ q. other Spread (is-spread q) (λ z. let y : ◌≡◌ {A = ℕ} 0 1 = cc in omega arith)) λ c.
         by_cases (ℕ_discrete (kind_at p) 4) (λ q. q) λ d.
-        other Before (is-before (kind_at p) refl a b c d) (λ z. let y : ◌≡◌ {A = ℕ} 0 1 = cc in omega arith)
+        other Before (is-before a b c d) (λ z. let y : ◌≡◌ {A = ℕ} 0 1 = cc in omega arith)
       where
         other : (x : Kind) → x ≡ kind_of (constraint_of p) → (x ≡ Latency → ⊥) → kind_at p ≡ 4
         other x e n = absurd (n (e ∙ k))
-
-    pub groups-listed : kind_at p < 5
-    groups-listed = let q = fourth in omega arith
 
     pub groups-last : groups_end p (others_at p + 1) (byte_at p (others_at p)) ≡ length p
     unfolding lists_end
@@ -403,9 +321,6 @@ module _ (p : List ℕ) (w : filled p ≡ true) where
 
     pub groups-byte : (at : ℕ) → at ≡ others_at p → at < length p
     groups-byte at e = let g = groups-last in let o = groups-on p (others_at p + 1) (byte_at p (others_at p)) in omega arith
-
-    pub groups-count : (at r : ℕ) → at ≡ others_at p → r ≡ byte_at p at → r ≡ length (groups_of (constraint_of p))
-    groups-count at r e f = f ∙ ap (byte_at p) e ∙ sym (ap length groups-read ∙ groups-length p (others_at p + 1) (byte_at p (others_at p)))
 
 pub group-part : (p : List ℕ) (at n end : ℕ) → end ≡ at + 1 + n → n ≡ byte_at p at → take (end - (at + 1)) (drop (at + 1) p) ≡ nodes_at p at
 unfolding nodes_at

@@ -2,8 +2,8 @@
 use Prim.Native.Nat.{ℕ, suc, ◌+◌, ◌-◌, ◌≤◌, ◌<◌}
 use mathlib.Core.Bool.{Bool, true, false, ◌&&◌, and-false}
 use mathlib.Core.List.{List, [], ◌∷◌}
-use mathlib.Core.Logic.{by_cases}
-use mathlib.Core.Path.{◌≡◌, refl, sym, ap, ◌∙◌}
+use mathlib.Core.Logic.{◌⊎◌, inl, inr, by_cases}
+use mathlib.Core.Path.{◌≡◌, refl}
 use native.Mathlib.Decide.{dec_lt}
 use native.Mathlib.Nat.{add-sub_cancel_left}
 use native.Mathlib.Numerals.{add-one}
@@ -12,12 +12,11 @@ use lib.ListN.{length, get_or, take, drop, drop_of_length-le, get_or-eq_default}
 use lib.Seq.{drop-cons}
 use lib.Dec.{ltb, leb}
 use borrow.Author.Tests.{lt-ltb, le-ltb, le-leb, lt-leb, ltb-true, ltb-false, leb-true}
+use Rattle.std.specs.Prelude.{Option, Some, None}
 use Rattle.records.specs.Base.{pick, all}
 use Rattle.records.specs.Room.{above, rises, list_ok}
 use Rattle.records.specs.Inner.{Below, rises_from, listed}
 use Rattle.records.proofs.Laws.Bools.{and_right, all-at}
-use Rattle.records.specs.declared.lists.Listed.{Listed}
-use Rattle.records.specs.declared.lists.Listed.TheVariants.{Ends, Bad}
 
 -- ---- rises_from is list_ok
 
@@ -55,13 +54,10 @@ pub at_i : (l : List ℕ) (i x : ℕ) → x ≡ get_or l i 0 → i < length l �
 at_i l i x e h = rw e (drop-cons l i 0 h)
 
 module _ (limit low i x : ℕ) (l : List ℕ) (result : Bool) (e : x ≡ get_or l i 0) (inv : rises_from limit low (drop i l) ≡ result) (h : i < length l) where
-  pub rises-low : x < low → false ≡ result
+  pub rises-out : (x < low) ⊎ ((low ≤ x) × (limit ≤ x)) → false ≡ result
   unfolding rises_from
-  rises-low p = simp (at_i l i x e h, lt-ltb x low p) at inv
-
-  pub rises-high : low ≤ x → limit ≤ x → false ≡ result
-  unfolding rises_from
-  rises-high p q = simp (at_i l i x e h, le-ltb x low p, le-leb limit x q) at inv
+  rises-out (inl p) = simp (at_i l i x e h, lt-ltb x low p) at inv
+  rises-out (inr (p, q)) = simp (at_i l i x e h, le-ltb x low p, le-leb limit x q) at inv
 
   pub rises-more : low ≤ x → x < limit → rises_from limit (x + 1) (drop (i + 1) l) ≡ result
   unfolding rises_from
@@ -75,37 +71,9 @@ rises-end limit low i l result inv h = rw (drop_of_length-le l h) at inv
 
 module _ (limit first n : ℕ) (p : List ℕ) where
   pub listed-pick : (a b : Bool) → leb (first + n) (length p) ≡ a → list_ok limit (take n (drop first p)) ≡ b →
-      listed limit p first n ≡ pick (a && b) (Ends (first + n)) Bad
+      listed limit p first n ≡ pick (a && b) (Some (first + n)) None
   unfolding listed
   listed-pick a b e f = simp (e, f)
-
-  -- it runs past the end: already its first element, or by its count
-  past : length p < first + n → Bad ≡ listed limit p first n
-  past h = sym (listed-pick false (list_ok limit (take n (drop first p))) (lt-leb (first + n) (length p) h) refl)
-
-  pub listed-past : length p < first → Bad ≡ listed limit p first n
-  listed-past h = past (omega arith)
-
-  pub listed-long : first ≤ length p → length p - first < n → Bad ≡ listed limit p first n
-  listed-long h q = past (omega arith)
-
-  -- it lies within, and the elements decide
-  module _ (ok : Bool) (end : ℕ) (e : end ≡ first + n) (f : ok ≡ list_ok limit (take (end - first) (drop first p)))
-      (h : first ≤ length p) (q : n ≤ length p - first) where
-    within : listed limit p first n ≡ pick (true && ok) (Ends (first + n)) Bad
-    within =
-        let w : first + n ≤ length p = omega arith in
-        listed-pick true ok (le-leb (first + n) (length p) w) (rw (← add-sub_cancel_left first n, ← e) (sym f))
-
-    pub listed-bad : ok ≡ false → Bad ≡ listed limit p first n
-    listed-bad o = sym (within ∙ ap (λ (b : Bool). pick b (Ends (first + n)) Bad) o)
-
-    pub listed-ends : ok ≡ true → Ends end ≡ listed limit p first n
-    listed-ends o = ap Ends e ∙ sym (within ∙ ap (λ (b : Bool). pick b (Ends (first + n)) Bad) o)
-
--- there is no room for its count
-pub listed-short : (limit at width n : ℕ) (p : List ℕ) → at ≤ length p → length p - at < width → Bad ≡ listed limit p (at + width) n
-listed-short limit at width n p h q = listed-past limit (at + width) n p (omega arith)
 
 -- ---- what an end that was found tells
 
@@ -114,16 +82,16 @@ pub record Found (limit first n end : ℕ) (p : List ℕ) : Type 0 where
   pub fits : first + n ≤ length p
   pub sound : list_ok limit (take n (drop first p)) ≡ true
 
-module _ (limit first n end : ℕ) (p : List ℕ) (r : Listed) (f : r ≡ listed limit p first n) (g : r ≡ Ends end) where
+module _ (limit first n end : ℕ) (p : List ℕ) (r : Option ℕ) (f : r ≡ listed limit p first n) (g : r ≡ Some end) where
   pub found : Found limit first n end p
   found = go (leb (first + n) (length p)) (list_ok limit (take n (drop first p))) refl refl
     where
-      never : {A : Type 0} → listed limit p first n ≡ Bad → A
+      never : {A : Type 0} → listed limit p first n ≡ None → A
       never b = let z : ◌≡◌ {A = ℕ} 0 1 = cc in absurd (omega arith)
 
       go : (a b : Bool) → leb (first + n) (length p) ≡ a → list_ok limit (take n (drop first p)) ≡ b → Found limit first n end p
       go true true x y =
-          let w : listed limit p first n ≡ Ends (first + n) = listed-pick limit first n p true true x y in
+          let w : listed limit p first n ≡ Some (first + n) = listed-pick limit first n p true true x y in
           record { ends = cc; fits = leb-true (first + n) (length p) x; sound = y }
       go true false x y = never (listed-pick limit first n p true false x y)
       go false b x y = never (listed-pick limit first n p false b x y)

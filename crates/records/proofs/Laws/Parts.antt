@@ -1,8 +1,8 @@
 -- Laws on the constraints as parts of the record, one behind the other.
 use Prim.Native.Nat.{ℕ, zero, suc, ◌+◌, ◌-◌, ◌≤◌, ◌<◌, ◌^◌}
-use mathlib.Core.Bool.{Bool, true, false, ◌&&◌}
+use mathlib.Core.Bool.{Bool, false}
 use mathlib.Core.List.{List}
-use mathlib.Core.Path.{◌≡◌, sym, ap, ◌∙◌}
+use mathlib.Core.Path.{◌≡◌, sym}
 use native.Mathlib.Omega.{arith}
 use lib.ListN.{length, take, drop, length-drop}
 use lib.Seq.{length-take-le}
@@ -10,9 +10,8 @@ use mir.Syntax.{w64}
 use mir.Val.{Fits}
 use lib.Dec.{eqb}
 use borrow.Author.Tests.{ne_eqb}
-use Rattle.records.specs.Base.{all}
 use Rattle.records.specs.Bytes.{be16}
-use Rattle.records.specs.Room.{part_end, part_at, parts_from, parts_end, well_formed}
+use Rattle.records.specs.Room.{part_end, part_at, parts_end}
 
 pub parts-on : (s : List ℕ) (at n : ℕ) → at ≤ parts_end s at n
 unfolding parts_end
@@ -84,20 +83,3 @@ module _ (s : List ℕ) (at left : ℕ) (end : parts_end s at left ≡ length s)
 
     pub parts-shorter : parts_end s (at + length p) (left - 1) ≡ length s
     parts-shorter = rw parts-step parts_next
-
-    module _ (v n : ℕ) (ok result : Bool) (f : ok ≡ well_formed v n p) (inv : all (well_formed v n) (parts_from s at left) ≡ result) where
-      turn : (k : ℕ) → left ≡ suc k → (well_formed v n (part_at s at) && all (well_formed v n) (parts_from s (part_end s at) k)) ≡ result
-      unfolding parts_from all
-      turn k q = rw q at inv
-
-      pub parts-not : ok ≡ false → false ≡ result
-      parts-not o = let w : left ≡ suc (left - 1) = omega arith in simp (ap (well_formed v n) (sym e) ∙ sym f ∙ o) at (turn (left - 1) w)
-
-      pub parts_more : ok ≡ true → all (well_formed v n) (parts_from s (at + length p) (left - 1)) ≡ result
-      parts_more o =
-          let w : left ≡ suc (left - 1) = omega arith in
-          rw parts-step (simp (ap (well_formed v n) (sym e) ∙ sym f ∙ o) at (turn (left - 1) w))
-
-pub parts-done : (s : List ℕ) (at left v n : ℕ) (result : Bool) → all (well_formed v n) (parts_from s at left) ≡ result → left ≤ 0 → true ≡ result
-unfolding parts_from all
-parts-done s at left v n result inv z = let w : left ≡ 0 = omega arith in rw w at inv

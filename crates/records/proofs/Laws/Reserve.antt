@@ -1,5 +1,5 @@
 -- Laws on a reserve: what is usable of a node, and the room at a reserve.
-use Prim.Native.Nat.{ℕ, ◌+◌, ◌-◌, ◌*◌, ◌/◌, ◌≤◌, ◌<◌, ◌^◌}
+use Prim.Native.Nat.{ℕ, ◌+◌, ◌-◌, ◌*◌, ◌≤◌, ◌<◌, ◌^◌}
 use mathlib.Core.List.{List, [], ◌∷◌, map}
 use mathlib.Core.Path.{◌≡◌, refl, sym, ap, ◌∙◌}
 use native.Mathlib.Nat.{zero-mul, mul-le-mul_left, mul-div_cancel}
@@ -14,12 +14,8 @@ use Rattle.records.proofs.Laws.Cluster.{nodes-count, vms-count, node-memory-is, 
 pub share-most : (reserve amount : ℕ) → amount < 2 ^ 24 → amount * (100 - reserve) < 2 ^ 32
 share-most reserve amount h = let l : 100 - reserve ≤ 100 = omega arith in let m = mul-le-mul_left amount l in omega arith
 
-pub share-fits : (reserve amount : ℕ) → amount < 2 ^ 24 → amount * (100 - reserve) < 2 ^ 64
-share-fits reserve amount h = let m = share-most reserve amount h in omega arith
-
-pub usable-is : (reserve amount share r : ℕ) → share ≡ amount * (100 - reserve) → r ≡ share / 100 → r ≡ usable reserve amount
-unfolding usable
-usable-is reserve amount share r e f = f ∙ ap (λ (n : ℕ). n / 100) e
+pub share_fits : (reserve amount : ℕ) → amount < 2 ^ 24 → amount * (100 - reserve) < 2 ^ 64
+share_fits reserve amount h = let m = share-most reserve amount h in omega arith
 
 -- with nothing kept it is the whole amount
 pub usable-whole : (amount : ℕ) → usable 0 amount ≡ amount

@@ -17,7 +17,7 @@ use Rattle.records.specs.Plan.{Move, Step, step_count, names_sources, width_in, 
 use Rattle.records.specs.Inner.{tells_source, tells_sources, suits_source, suits}
 use Rattle.records.specs.declared.plan.Source.{Source}
 use Rattle.records.specs.declared.plan.Source.TheVariants.{Unnamed, Named}
-use Rattle.records.specs.declared.faults.PlanCheck.TheVariants.{Whole}
+use Rattle.std.specs.Prelude.{Ok}
 use Rattle.records.proofs.Laws.Bools.{and_left, and_right, all_head, all_tail}
 use Rattle.records.proofs.Laws.Steps.{two-or-three, empty-steps, plan-known, all-suit}
 
@@ -268,7 +268,7 @@ module _ (version : ℕ) (steps : List Step) (n : all (suits version) steps ≡ 
   stated-alone : be32 (record_bytes version steps) 1 ≡ length (record_bytes version steps)
   stated-alone = ap (λ (x : List ℕ). be32 x 1) (sym (append-nil (record_bytes version steps))) ∙ stated-is []
 
-  pub record-whole : known_version version ≡ true → plan_check (record_bytes version steps) ≡ Whole
+  pub record-whole : known_version version ≡ true → plan_check (record_bytes version steps) ≡ Ok tt
   unfolding plan_check
   record-whole k =
       let a = record-size version steps in
@@ -315,7 +315,7 @@ module _ (steps : List Step) (n : all tells_sources steps ≡ true) (z : shaped 
   unfolding plan_bytes
   steps-of-plan = steps-of-record written_version steps (sym (tells-suits steps) ∙ n) z
 
-  pub plan-whole : plan_check (plan_bytes steps) ≡ Whole
+  pub plan-whole : plan_check (plan_bytes steps) ≡ Ok tt
   unfolding plan_bytes known_version
   plan-whole = record-whole written_version steps (sym (tells-suits steps) ∙ n) z refl
 
@@ -329,7 +329,7 @@ unfolding plan_bytes
 header_is = record-none written_version
 
 -- a header with 0 steps, of either version, is whole and stands for no steps
-pub header-whole : (version : ℕ) → (version ≡ 1) ⊎ (version ≡ 2) → plan_check (header_bytes version 7 0) ≡ Whole
+pub header-whole : (version : ℕ) → (version ≡ 1) ⊎ (version ≡ 2) → plan_check (header_bytes version 7 0) ≡ Ok tt
 unfolding plan_check known_version header_bytes bytes32 bytes16 be32 be24 be16 steps_of steps_from steps_end shaped move_total sum_of all
 header-whole version (inl e) = rw e refl
 header-whole version (inr e) = rw e refl
@@ -344,15 +344,11 @@ pub kept-none : (s : List ℕ) → length s ≤ 0 → written_version ≡ kept_v
 unfolding kept_version
 kept-none s h = let z : length s ≡ 0 = omega arith in rw (eq-eqb (length s) 0 z)
 
-pub kept-own : (s : List ℕ) (version : ℕ) → version ≡ version_of s → 0 < length s → version ≡ kept_version s
-unfolding kept_version
-kept-own s version e h = let n : length s ≡ 0 → ⊥ = λ q. omega arith in rw (ne_eqb (length s) 0 n) e
-
 two-known : known_version written_version ≡ true
 unfolding known_version
 two-known = refl
 
-pub kept-known : (s : List ℕ) → plan_check s ≡ Whole → known_version (kept_version s) ≡ true
+pub kept-known : (s : List ℕ) → plan_check s ≡ Ok tt → known_version (kept_version s) ≡ true
 unfolding kept_version
 kept-known s w = go (eqb (length s) 0) refl
   where

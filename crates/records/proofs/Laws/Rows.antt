@@ -7,11 +7,10 @@ use mathlib.Core.Path.{◌≡◌, refl, sym, ap, ◌∙◌}
 use native.Mathlib.Decide.{dec_lt}
 use native.Mathlib.Omega.{arith}
 use lib.ListN.{length, get_or}
-use lib.Dec.{ltb, leb, eqb}
-use borrow.Author.Tests.{lt-ltb, le-ltb, le-leb, lt-leb, eq-eqb, ne_eqb, ltb-true, eqb-true}
+use lib.Dec.{ltb, eqb}
+use borrow.Author.Tests.{lt-ltb, le-ltb, eq-eqb, ne_eqb, ltb-true, eqb-true}
 use Rattle.records.specs.Base.{all}
-use Rattle.records.specs.Bytes.{byte_at, be24, be32, version_of, known_version}
-use Rattle.records.specs.Room.{nowhere, on_node, rows, node_count, vm_count, constraint_count, knows_nowhere, counts_ok, vm_row, place_ok, vm_ok}
+use Rattle.records.specs.Room.{nowhere, on_node, rows, vm_row, place_ok, vm_ok}
 
 -- ---- rows
 
@@ -26,55 +25,6 @@ rows_at read width at zero i d h = absurd (omega arith)
 rows_at read width at (suc n) zero d h = ap read (omega arith)
 rows_at read width at (suc n) (suc i) d h = rows_at read width (at + width) n i d (omega arith) ∙ ap read (omega arith)
 
--- ---- the header
-
-pub known-first : (version : ℕ) → version ≡ 1 → true ≡ known_version version
-unfolding known_version
-known-first version e = rw (eq-eqb version 1 e)
-
-pub known-second : (version : ℕ) → (version ≡ 1 → ⊥) → eqb version 2 ≡ known_version version
-unfolding known_version
-known-second version e = rw (ne_eqb version 1 e)
-
-pub version-knows : (s : List ℕ) (version : ℕ) → version ≡ version_of s → eqb version 2 ≡ knows_nowhere s
-unfolding knows_nowhere
-version-knows s version e = ap (λ (v : ℕ). eqb v 2) e
-
-module _ (s : List ℕ) (stated : ℕ) (e : stated ≡ be32 s 1) where
-  pub length-differs : (stated ≡ length s → ⊥) → true ≡ (not (eqb (be32 s 1) (length s)) || ltb 65535 (be32 s 1))
-  length-differs n = rw (ne_eqb (be32 s 1) (length s) (λ q. n (e ∙ q)))
-
-  pub length-same : stated ≡ length s → ltb 65535 stated ≡ (not (eqb (be32 s 1) (length s)) || ltb 65535 (be32 s 1))
-  length-same q = rw (eq-eqb (be32 s 1) (length s) (sym e ∙ q), e)
-
-module _ (s : List ℕ) (n : ℕ) (e : n ≡ node_count s) where
-  pub counts-none : n < 1 → false ≡ counts_ok s
-  unfolding counts_ok
-  counts-none h = let w : node_count s < 1 = omega arith in simp (lt-leb 1 (node_count s) w)
-
-  pub counts-nodes : 1 ≤ n → 64 < n → false ≡ counts_ok s
-  unfolding counts_ok
-  counts-nodes g h =
-      let w : 64 < node_count s = omega arith in
-      let v : 1 ≤ node_count s = omega arith in
-      simp (le-leb 1 (node_count s) v, lt-leb (node_count s) 64 w)
-
-  pub counts-vms : (v : ℕ) → v ≡ vm_count s → 1 ≤ n → n ≤ 64 → 256 < v → false ≡ counts_ok s
-  unfolding counts_ok
-  counts-vms v f g h k =
-      let a : 1 ≤ node_count s = omega arith in
-      let b : node_count s ≤ 64 = omega arith in
-      let d : 256 < vm_count s = omega arith in
-      simp (le-leb 1 (node_count s) a, le-leb (node_count s) 64 b, lt-leb (vm_count s) 256 d)
-
-  pub counts-rest : (v c : ℕ) → v ≡ vm_count s → c ≡ constraint_count s → 1 ≤ n → n ≤ 64 → v ≤ 256 → leb c 128 ≡ counts_ok s
-  unfolding counts_ok
-  counts-rest v c f k g h l =
-      let a : 1 ≤ node_count s = omega arith in
-      let b : node_count s ≤ 64 = omega arith in
-      let d : vm_count s ≤ 256 = omega arith in
-      simp (k, le-leb 1 (node_count s) a, le-leb (node_count s) 64 b, le-leb (vm_count s) 256 d)
-
 -- ---- a VM row
 
 -- one of its places
@@ -82,14 +32,6 @@ module _ (known : Bool) (nodes place : ℕ) where
   pub place-node : place < nodes → true ≡ place_ok known nodes place
   unfolding place_ok
   place-node h = rw (lt-ltb place nodes h)
-
-  pub place-known : nodes ≤ place → known ≡ true → eqb place nowhere ≡ place_ok known nodes place
-  unfolding place_ok
-  place-known h k = rw (le-ltb place nodes h, k)
-
-  pub place-unknown : nodes ≤ place → known ≡ false → false ≡ place_ok known nodes place
-  unfolding place_ok
-  place-unknown h k = rw (le-ltb place nodes h, k)
 
 -- what a place is, where `nowhere` is not known and where it is
 pub place-below : (nodes place : ℕ) → place_ok false nodes place ≡ true → place < nodes
@@ -134,23 +76,6 @@ module _ (nodes p : ℕ) (m : nodes ≤ 64) (a : place_ok true nodes p ≡ true)
   pub near-is : on_node p ≡ ltb p 64
   near-is = by_cases (dec_lt p 64) (λ h. near_on h ∙ sym (lt-ltb p 64 h)) (λ h. let k : 64 ≤ p = omega arith in far-off k ∙ sym (le-ltb p 64 k))
 
-module _ (s : List ℕ) (known : Bool) (at nodes memory : ℕ) (e : memory ≡ be24 s at) where
-  pub row-empty : memory < 1 → false ≡ vm_ok known nodes (vm_row s at)
-  unfolding vm_ok vm_row
-  row-empty h = let w : be24 s at < 1 = omega arith in simp (lt-leb 1 (be24 s at) w)
-
-  module _ (h : 1 ≤ memory) (current : ℕ) (f : current ≡ byte_at s (at + 5)) (first : Bool) (k : first ≡ place_ok known nodes current) where
-    has-memory : leb 1 (be24 s at) ≡ true
-    has-memory = let w : 1 ≤ be24 s at = omega arith in le-leb 1 (be24 s at) w
-
-    pub row-current : first ≡ false → false ≡ vm_ok known nodes (vm_row s at)
-    unfolding vm_ok vm_row
-    row-current o = simp (has-memory, ap (place_ok known nodes) (sym f) ∙ sym k ∙ o)
-
-    pub row_target : (target : ℕ) → target ≡ byte_at s (at + 6) → (second : Bool) → second ≡ place_ok known nodes target → first ≡ true → second ≡ vm_ok known nodes (vm_row s at)
-    unfolding vm_ok vm_row
-    row_target target g second l o = simp (has-memory, ap (place_ok known nodes) (sym f) ∙ sym k ∙ o, l ∙ ap (place_ok known nodes) g)
-
 -- the turns of the pass over the VM rows
 module _ (s : List ℕ) (known : Bool) (nodes at left : ℕ) (ok result : Bool) (e : ok ≡ vm_ok known nodes (vm_row s at))
     (inv : all (vm_ok known nodes) (rows (vm_row s) 7 at left) ≡ result) (h : 0 < left) where
@@ -161,8 +86,8 @@ module _ (s : List ℕ) (known : Bool) (nodes at left : ℕ) (ok result : Bool) 
   pub rows-not : ok ≡ false → false ≡ result
   rows-not o = let w : left ≡ suc (left - 1) = omega arith in simp (sym e ∙ o) at (turn (left - 1) w)
 
-  pub rows_more : ok ≡ true → all (vm_ok known nodes) (rows (vm_row s) 7 (at + 7) (left - 1)) ≡ result
-  rows_more o = let w : left ≡ suc (left - 1) = omega arith in simp (sym e ∙ o) at (turn (left - 1) w)
+  pub rows_more : (next rest : ℕ) → ok ≡ true → next ≡ at + 7 → left ≡ suc rest → all (vm_ok known nodes) (rows (vm_row s) 7 next rest) ≡ result
+  rows_more next rest o f g = rw f (simp (sym e ∙ o) at (turn rest g))
 
 pub rows_end : (s : List ℕ) (known : Bool) (nodes at left : ℕ) (result : Bool) → all (vm_ok known nodes) (rows (vm_row s) 7 at left) ≡ result → left ≤ 0 → true ≡ result
 unfolding rows all

@@ -4,7 +4,7 @@ use Prim.Native.Nat.{ℕ, zero, suc, ◌+◌, ◌-◌, ◌*◌, ◌≤◌, ◌<�
 use mathlib.Core.Bool.{Bool, true, false, not, ◌&&◌, and-false, and_assoc}
 use mathlib.Core.List.{List, [], ◌∷◌, ◌++◌}
 use mathlib.Core.Path.{◌≡◌, refl, sym, ap, ◌∙◌}
-use native.Mathlib.Nat.{add_assoc, zero-add, add-zero, mul-le-mul_left, mul-le-mul_right}
+use native.Mathlib.Nat.{add_assoc, zero-add, add-zero, mul-le-mul_right}
 use native.Mathlib.Omega.{arith}
 use native.Mathlib.Decide.{ℕ_discrete}
 use mathlib.Core.Logic.{by_cases}
@@ -13,14 +13,14 @@ use lib.Dec.{ltb, leb, eqb}
 use borrow.Author.Tests.{lt-ltb, le-ltb, le-leb, lt-leb, eq-eqb, ne_eqb, ltb-false, leb-true, eqb-true, not-false}
 use Rattle.records.specs.Base.{pick, all, sum_of}
 use Rattle.records.specs.Bytes.{byte_at, be16, be32, version_of, known_version}
-use Rattle.records.specs.Plan.{Move, Step, no_move, move_of, step_count, names_sources, move_width, source_at, move_count, move_at, step_at, step_end, steps_from, steps_end, steps_of, move_total, sized, shaped, plan_check, longest_plan}
+use Rattle.records.specs.Plan.{Move, Step, no_move, move_of, step_count, names_sources, move_width, source_at, move_count, move_at, step_at, step_end, steps_from, steps_end, steps_of, move_total, sized, shaped, plan_check, plan_read, longest_plan}
 use Rattle.records.specs.declared.plan.Source.TheVariants.{Unnamed, Named}
 use Rattle.records.specs.Room.{rows}
 use Rattle.records.specs.Inner.{steps_ok, tells_source, tells_sources, suits_source, suits, Steps}
 use Rattle.records.specs.declared.faults.PlanFault.{PlanFault}
 use Rattle.records.specs.declared.faults.PlanFault.TheVariants.{TooShort, Version, Length, Shape}
-use Rattle.records.specs.declared.faults.PlanCheck.{PlanCheck}
-use Rattle.records.specs.declared.faults.PlanCheck.TheVariants.{Whole, Damaged}
+use Rattle.std.specs.Prelude.{Result, Ok, Err}
+use Rattle.std.specs.Result.{result_and}
 use Rattle.records.proofs.Laws.Bools.{and_left, and_right, and_both, all_head, all_tail}
 use Rattle.records.proofs.Laws.Rows.{rows-length, rows_at}
 
@@ -39,20 +39,6 @@ module _ (s : List ℕ) where
   unfolding move_width
   width-most = (two-or-three (names_sources (version_of s))).1
 
-  -- what a test of the version tells of it, and of n moves
-  pub version-names : (version : ℕ) → version ≡ version_of s → eqb version 2 ≡ names_sources (version_of s)
-  unfolding names_sources
-  version-names version e = rw e
-
-  module _ (names : Bool) (e : names ≡ names_sources (version_of s)) (n : ℕ) where
-    pub size-naming : names ≡ true → n * 3 ≡ n * move_width s
-    unfolding move_width
-    size-naming t = rw (sym e ∙ t)
-
-    pub size-plain : names ≡ false → n * 2 ≡ n * move_width s
-    unfolding move_width
-    size-plain t = rw (sym e ∙ t)
-
   -- move i of n lies within them
   move-within : (i n : ℕ) → i < n → i * move_width s + move_width s ≤ n * move_width s
   move-within i n h = let l : suc i ≤ n = omega arith in let m = mul-le-mul_right (move_width s) l in omega arith
@@ -61,12 +47,6 @@ module _ (s : List ℕ) where
 module _ (s : List ℕ) (at i : ℕ) (h : i < move_count s at) (w : step_end s at ≤ length s) where
   pub place-low : at + 2 + i * move_width s + move_width s ≤ length s
   place-low = let m = move-within s i (move_count s at) h in omega arith
-
-  pub place-two : at + 2 + i * move_width s + 2 ≤ length s
-  place-two = let m = place-low in let l = width-least s in omega arith
-
-  pub index-low : i * 2 + 4 ≤ length s
-  index-low = let m = place-low in let l = width-least s in let k = mul-le-mul_left i l in omega arith
 
 pub step-end-is : (s : List ℕ) (at n size : ℕ) → n ≡ move_count s at → size ≡ n * move_width s → at + 2 + size ≡ step_end s at
 step-end-is s at n size e f = rw (f, e)
@@ -123,14 +103,14 @@ module _ (s : List ℕ) (at left moves : ℕ) (result : Bool) (inv : steps_ok s 
       pub steps-long : at ≤ length s → 2 ≤ length s - at → length s - at - 2 < size → false ≡ result
       steps-long h w v = past z (let k = size_is in omega arith)
 
-      pub steps-more : 1 ≤ n → n ≤ 256 → steps_ok s (at + 2 + size) (left - 1) (moves + n) ≡ result
+      pub steps-more : (more : ℕ) → left ≡ suc more → 1 ≤ n → n ≤ 256 → steps_ok s (at + (2 + size)) more (moves + n) ≡ result
       unfolding steps_ok sized
-      steps-more h w =
-          let f : left ≡ suc (left - 1) = omega arith in
+      steps-more more f h w =
+          let p : at + (2 + size) ≡ step_end s at = omega (arith, size_is) in
           let l : 1 ≤ move_count s at = omega arith in
           let m : move_count s at ≤ 256 = omega arith in
-          rw (size_is, e, add_assoc moves (move_count s at) (move_total (steps_from s (step_end s at) (left - 1))))
-          (simp (step-length, le-leb 1 (move_count s at) l, le-leb (move_count s at) 256 m) at (opened (left - 1) f))
+          rw (p, e, add_assoc moves (move_count s at) (move_total (steps_from s (step_end s at) more)))
+          (simp (step-length, le-leb 1 (move_count s at) l, le-leb (move_count s at) 256 m) at (opened more f))
 
   none_left : left ≤ 0 → (leb moves 1024 && eqb at (length s)) ≡ result
   unfolding steps_ok steps_from steps_end all move_total sum_of
@@ -159,11 +139,11 @@ module _ (s : List ℕ) (count : ℕ) (e : count ≡ step_count s) where
 -- ---- each refusal in its turn
 
 module _ (s : List ℕ) where
-  pub plan-empty : length s ≡ 0 → Whole ≡ plan_check s
+  pub plan-empty : length s ≡ 0 → Ok tt ≡ plan_check s
   unfolding plan_check
   plan-empty h = simp (eq-eqb (length s) 0 h)
 
-  pub plan-short : (length s ≡ 0 → ⊥) → length s < 7 → Damaged TooShort ≡ plan_check s
+  pub plan-short : (length s ≡ 0 → ⊥) → length s < 7 → Err TooShort ≡ plan_check s
   unfolding plan_check
   plan-short n h = simp (ne_eqb (length s) 0 n, lt-ltb (length s) 7 h)
 
@@ -174,21 +154,21 @@ module _ (s : List ℕ) where
     known_is : known_version (version_of s) ≡ known
     known_is = rw (← e1) (sym k1)
 
-    pub plan-version : known ≡ false → Damaged Version ≡ plan_check s
+    pub plan-version : known ≡ false → Err Version ≡ plan_check s
     unfolding plan_check
     plan-version h2 = simp (not-empty, le-ltb (length s) 7 h1, known_is ∙ h2)
 
     module _ (stated : ℕ) (e2 : stated ≡ be32 s 1) (h2 : known ≡ true) where
-      pub plan-length : (stated ≡ length s → ⊥) → Damaged Length ≡ plan_check s
+      pub plan-length : (stated ≡ length s → ⊥) → Err Length ≡ plan_check s
       unfolding plan_check
       plan-length h3 = simp (not-empty, le-ltb (length s) 7 h1, known_is ∙ h2, ne_eqb (be32 s 1) (length s) (λ q. h3 (e2 ∙ q)))
 
       module _ (shape : Bool) (e3 : shape ≡ (shaped (steps_of s) && eqb (steps_end s 7 (step_count s)) (length s))) (h3 : stated ≡ length s) where
-        pub plan-shape : shape ≡ false → Damaged Shape ≡ plan_check s
+        pub plan-shape : shape ≡ false → Err Shape ≡ plan_check s
         unfolding plan_check
         plan-shape h4 = simp (not-empty, le-ltb (length s) 7 h1, known_is ∙ h2, eq-eqb (be32 s 1) (length s) (sym e2 ∙ h3), sym e3 ∙ h4)
 
-        pub plan-none : shape ≡ true → Whole ≡ plan_check s
+        pub plan-none : shape ≡ true → Ok tt ≡ plan_check s
         unfolding plan_check
         plan-none h4 = simp (not-empty, le-ltb (length s) 7 h1, known_is ∙ h2, eq-eqb (be32 s 1) (length s) (sym e2 ∙ h3), sym e3 ∙ h4)
 
@@ -204,11 +184,11 @@ pub empty-steps : (s : List ℕ) → length s ≡ 0 → steps_of s ≡ []
 unfolding steps_of steps_from
 empty-steps s e = rw (← empty-count s (omega arith)) refl
 
-passed : (test : Bool) (f : PlanFault) (rest : PlanCheck) → pick test (Damaged f) rest ≡ Whole → (test ≡ false) × (rest ≡ Whole)
+passed : (test : Bool) (f : PlanFault) (rest : Result (Unit {0}) PlanFault) → pick test (Err f) rest ≡ Ok tt → (test ≡ false) × (rest ≡ Ok tt)
 passed true f rest e = let z : ◌≡◌ {A = ℕ} 0 1 = cc in absurd (omega arith)
 passed false f rest e = (refl, e)
 
-module _ (s : List ℕ) (w : plan_check s ≡ Whole) where
+module _ (s : List ℕ) (w : plan_check s ≡ Ok tt) where
   -- if it has bytes
   module _ (h : 0 < length s) where
     parts : (7 ≤ length s) × (shaped (steps_of s) ≡ true) × (steps_end s 7 (step_count s) ≡ length s) × (known_version (version_of s) ≡ true)
@@ -217,7 +197,7 @@ module _ (s : List ℕ) (w : plan_check s ≡ Whole) where
         let a = passed (ltb (length s) 7) TooShort _ (rw (ne_eqb (length s) 0 (λ q. omega arith)) at w) in
         let b = passed (not (known_version (version_of s))) Version _ a.1 in
         let c = passed (not (eqb (be32 s 1) (length s))) Length _ b.1 in
-        let d = passed (not (shaped (steps_of s) && eqb (steps_end s 7 (step_count s)) (length s))) Shape Whole c.1 in
+        let d = passed (not (shaped (steps_of s) && eqb (steps_end s 7 (step_count s)) (length s))) Shape (Ok tt) c.1 in
         let e = not-false (shaped (steps_of s) && eqb (steps_end s 7 (step_count s)) (length s)) d.0 in (
           ltb-false (length s) 7 a.0,
           and_left (shaped (steps_of s)) _ e,
@@ -291,15 +271,8 @@ module _ (s : List ℕ) (at left : ℕ) (w : Steps s at left) (z : 0 < left) whe
   pub step-within : step_end s at ≤ length s
   step-within = let e = next-ends in let o = steps_on s (step_end s at) (left - 1) in omega arith
 
-  head-sized : (leb 1 (length (step_at s at)) && leb (length (step_at s at)) 256) ≡ true
-  unfolding sized
-  head-sized = all_head sized (step_at s at) (steps_from s (step_end s at) (left - 1)) (rw steps-cons at w.counts)
-
-  pub moves-least : 1 ≤ move_count s at
-  moves-least = let h = leb-true 1 (length (step_at s at)) (and_left (leb 1 (length (step_at s at))) _ head-sized) in omega (arith, step-length s at)
-
-  pub moves-most : move_count s at ≤ 256
-  moves-most = let h = leb-true (length (step_at s at)) 256 (and_right (leb 1 (length (step_at s at))) _ head-sized) in omega (arith, step-length s at)
+  pub step-sized : sized (step_at s at) ≡ true
+  step-sized = all_head sized (step_at s at) (steps_from s (step_end s at) (left - 1)) (rw steps-cons at w.counts)
 
 -- the moves of a step, by their bytes
 module _ (s : List ℕ) (at i : ℕ) (h : i < move_count s at) (place : ℕ) (p : place ≡ at + 2 + i * move_width s) where
@@ -307,26 +280,54 @@ module _ (s : List ℕ) (at i : ℕ) (h : i < move_count s at) (place : ℕ) (p 
   unfolding move_of step_at
   move-at = rows_at (move_at s) (move_width s) (at + 2) (move_count s at) i no_move h ∙ ap (move_at s) (sym p)
 
-  pub move-vm-is : (r : ℕ) → r ≡ byte_at s place → r ≡ (move_of (step_at s at) i).vm
-  unfolding move_at
-  move-vm-is r e = e ∙ ap (λ (m : Move). m.vm) (sym move-at)
+-- the moves that are left of a step
+moves-suc : (s : List ℕ) (at n : ℕ) → rows (move_at s) (move_width s) at (suc n) ≡ move_at s at ∷ rows (move_at s) (move_width s) (at + move_width s) n
+unfolding rows
+moves-suc s at n = refl
 
-  pub move-to-is : (r width : ℕ) → r ≡ byte_at s (place + width - 1) → width ≡ 1 * move_width s → r ≡ (move_of (step_at s at) i).to
-  unfolding move_at
-  move-to-is r width e f =
-      let w : width ≡ move_width s = omega arith in
-      e ∙ rw w (ap (λ (m : Move). m.to) (sym move-at))
+module _ (s : List ℕ) (at left : ℕ) (z : 0 < left) where
+  pub moves-cons : rows (move_at s) (move_width s) at left ≡ move_at s at ∷ rows (move_at s) (move_width s) (at + move_width s) (left - 1)
+  moves-cons = let e : left ≡ suc (left - 1) = omega arith in ap (rows (move_at s) (move_width s) at) e ∙ moves-suc s at (left - 1)
 
-  module _ (names : Bool) (e : names ≡ names_sources (version_of s)) where
-    pub move-source-is : (r : ℕ) → r ≡ byte_at s (place + 1) → names ≡ true → Named r ≡ (move_of (step_at s at) i).source
-    unfolding move_at source_at
-    move-source-is r f t = ap Named f ∙ sym (ap (λ (b : Bool). pick b (Named (byte_at s (place + 1))) Unnamed) (sym e ∙ t)) ∙ ap (λ (m : Move). m.source) (sym move-at)
+  pub move-fits : at + left * move_width s ≤ length s → at + move_width s ≤ length s
+  move-fits w = let l : 1 ≤ left = z in let m = mul-le-mul_right (move_width s) l in omega arith
 
-pub move-unnamed : (s : List ℕ) (at i : ℕ) (names : Bool) → names ≡ names_sources (version_of s) → i < move_count s at → names ≡ false → Unnamed ≡ (move_of (step_at s at) i).source
-unfolding move_at source_at
-move-unnamed s at i names e h t =
-    let place = at + 2 + i * move_width s in
-    sym (ap (λ (b : Bool). pick b (Named (byte_at s (place + 1))) Unnamed) (sym e ∙ t)) ∙ ap (λ (m : Move). m.source) (sym (move-at s at i h place refl))
+-- ---- reading
+
+pub count-is : (s : List ℕ) → step_count s ≡ length (steps_of s)
+unfolding steps_of
+count-is s = sym (steps-length s 7 (step_count s))
+
+-- what the ranges say
+module _ (steps : List Step) (e : shaped steps ≡ true) where
+  pub shaped-count : length steps ≤ 512
+  unfolding shaped
+  shaped-count = leb-true (length steps) 512 (and_left (leb (length steps) 512) _ e)
+
+  pub shaped-each : all sized steps ≡ true
+  unfolding shaped
+  shaped-each = and_left (all sized steps) _ (and_right (leb (length steps) 512) _ e)
+
+  pub shaped-total : move_total steps ≤ 1024
+  unfolding shaped
+  shaped-total = leb-true (move_total steps) 1024 (and_right (all sized steps) (leb (move_total steps) 1024) (and_right (leb (length steps) 512) _ e))
+
+module _ (step : Step) (e : sized step ≡ true) where
+  pub sized-least : 1 ≤ length step
+  unfolding sized
+  sized-least = leb-true 1 (length step) (and_left (leb 1 (length step)) _ e)
+
+  pub sized-most : length step ≤ 256
+  unfolding sized
+  sized-most = leb-true (length step) 256 (and_right (leb 1 (length step)) _ e)
+
+-- what was read is in its ranges
+pub read-shaped : (s : List ℕ) (steps : List Step) → plan_read s ≡ Ok steps → shaped steps ≡ true
+read-shaped s steps e = go (plan_check s) refl e
+  where
+    go : (r : Result (Unit {0}) PlanFault) → plan_check s ≡ r → result_and r (Ok (steps_of s)) ≡ Ok steps → shaped steps ≡ true
+    go (Ok tt) w f = let same : steps_of s ≡ steps = cc in rw (← same) (plan-shaped s w)
+    go (Err fault) w f = absurd cc
 
 -- ---- what is the same of every move, and how long a record can be
 
@@ -383,7 +384,34 @@ shape-most s e =
     let g = width-most s in
     omega arith
 
-pub plan-most : (s : List ℕ) → plan_check s ≡ Whole → length s ≤ longest_plan
+pub plan-most : (s : List ℕ) → plan_check s ≡ Ok tt → length s ≤ longest_plan
 plan-most s w =
     by_cases (ℕ_discrete (length s) 0) (λ e. omega arith)
     (λ k. let h : 0 < length s = omega arith in let a = (parts s w h).2 in let b = shape-most s (plan-shaped s w) in omega arith)
+
+-- what the check of a plan cites, and what its readers do
+pub ruleset checking = (shape-many, shape-steps, steps-short, steps-none, steps-many, steps-long, steps-over)
+
+pub no-steps : (s : List ℕ) (at left : ℕ) → left ≡ 0 → steps_from s at left ≡ []
+unfolding steps_from
+no-steps s at left e = rw e refl
+
+pub no-moves : (s : List ℕ) (at left : ℕ) → left ≡ 0 → rows (move_at s) (move_width s) at left ≡ []
+unfolding rows
+no-moves s at left e = rw e refl
+
+pub all-steps : (s : List ℕ) (n : ℕ) → n ≡ step_count s → steps_from s 7 n ≡ steps_of s
+unfolding steps_of
+all-steps s n e = rw e refl
+
+pub all-moves : (s : List ℕ) (at n : ℕ) → n ≡ move_count s at → rows (move_at s) (move_width s) (at + 2) n ≡ step_at s at
+unfolding step_at
+all-moves s at n e = rw e refl
+
+pub first-steps : (s : List ℕ) (n : ℕ) → plan_check s ≡ Ok tt → n ≡ step_count s → Steps s 7 n
+first-steps s n w e = rw e (steps-start s w)
+
+pub more-steps : (s : List ℕ) (at left next : ℕ) → Steps s at left → 0 < left → next ≡ step_end s at → Steps s next (left - 1)
+more-steps s at left next w z e = rw e (steps_next s at left w z)
+
+pub ruleset reading = (plan-long, empty-steps, step-length, count-is, plan-shaped, step-within, step-sized, steps-cons, moves-cons, move-fits, move-at, place-low, width-least, no-steps, no-moves, all-steps, all-moves)

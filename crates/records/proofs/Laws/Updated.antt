@@ -12,7 +12,7 @@ use lib.Dec.{leb}
 use Rattle.records.specs.Base.{all}
 use Rattle.records.specs.Bytes.{byte_at, be16, be24, be32, version_of}
 use Rattle.records.specs.Room.{Vm, Room, placed_from, at_places, rows, node_row, vm_row, node_count, vm_count, constraint_count, vms_start, constraints_start, current_at, updated_to, updated, part_at, parts_from, parts_end, parts_of, room_of, knows_nowhere, counts_ok, place_ok, vm_ok, cluster_check}
-use Rattle.records.specs.declared.faults.ClusterCheck.TheVariants.{Whole}
+use Rattle.std.specs.Prelude.{Ok}
 use Rattle.records.proofs.Laws.Bools.{and_left, and_right, and_both}
 use Rattle.records.proofs.Laws.Cluster.{undamaged, whole-rows, vms-count}
 
@@ -196,7 +196,7 @@ module _ (s places : List ℕ) where
       rw (nodes-same, vms-same, constraints-same)
       (ends_same s t (constraints_start s) (updated-behind s places) (constraints_start s) (constraint_count s) (omega arith))
 
-  module _ (w : cluster_check s ≡ Whole) where
+  module _ (w : cluster_check s ≡ Ok tt) where
     -- its VM rows
     vm-row-placed : (i : ℕ) → i < vm_count s → vm_row t (vms_start s + i * 7) ≡ at_place (get_or places (0 + i) 0) (vm_row s (vms_start s + i * 7))
     unfolding vm_row at_place
@@ -236,7 +236,7 @@ placed-ok known n places v (vm ∷ vms) h e =
     (placed-ok known n places (suc v) vms (λ i k. let f : v + suc i ≡ suc v + i = omega arith in rw f at (h (suc i) (omega arith)))
     (and_right (vm_ok known n vm) (all (vm_ok known n) vms) e))
 
-module _ (s places : List ℕ) (w : cluster_check s ≡ Whole) (ok : (v : ℕ) → v < vm_count s → place_ok (knows_nowhere s) (node_count s) (get_or places v 0) ≡ true) where
+module _ (s places : List ℕ) (w : cluster_check s ≡ Ok tt) (ok : (v : ℕ) → v < vm_count s → place_ok (knows_nowhere s) (node_count s) (get_or places v 0) ≡ true) where
   rows_ok : all (vm_ok (knows_nowhere s) (node_count s)) (room_of (updated s places)).vms ≡ true
   unfolding at_places
   rows_ok =
@@ -244,7 +244,7 @@ module _ (s places : List ℕ) (w : cluster_check s ≡ Whole) (ok : (v : ℕ) �
       placed-ok (knows_nowhere s) (node_count s) places 0 (room_of s).vms (λ i h. let z : 0 + i ≡ i = omega arith in rw z (ok i (omega (arith, vms-count s)))) (undamaged s w).rows
 
   -- every test but that of the VM rows reads the same, and they pass
-  pub updated-whole : cluster_check (updated s places) ≡ Whole
+  pub updated-whole : cluster_check (updated s places) ≡ Ok tt
   unfolding cluster_check counts_ok knows_nowhere
   updated-whole =
       let version : version_of (updated s places) ≡ version_of s = header-byte s places 0 (omega arith) in

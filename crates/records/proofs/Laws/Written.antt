@@ -1,36 +1,15 @@
 -- Laws on bytes written into a buffer.
-use Prim.Native.Nat.{ℕ, suc, ◌+◌, ◌/◌, ◌%◌, ◌≤◌, ◌<◌}
+use Prim.Native.Nat.{ℕ, suc, ◌+◌, ◌≤◌, ◌<◌}
 use mathlib.Core.List.{List, [], ◌∷◌, ◌++◌, append_assoc}
 use mathlib.Core.Path.{◌≡◌, refl, sym, ap, ◌∙◌}
 use native.Mathlib.Nat.{add_assoc, zero-add}
-use native.Mathlib.Numerals.{add-one, add-two, add-three}
+use native.Mathlib.Numerals.{add-one}
 use native.Mathlib.Omega.{arith}
 use lib.ListN.{length, get_or, set, take, drop, length-append, length-drop}
-use lib.Seq.{take-suc, take-suc-set, drop-set-lt, sets, sets-eq, length-take-le, take_at, drop_at, drop-drop, take-take}
+use lib.Seq.{take-suc, take-suc-set, drop-set-lt, length-take-le, take_at, drop_at, drop-drop, take-take}
 use Rattle.records.specs.Bytes.{bytes16, bytes32}
-use Rattle.records.specs.Plan.{source_bytes, move_bytes, moves_bytes, step_bytes, header_bytes, written_width, written}
-use Rattle.records.specs.declared.plan.Source.{Source}
+use Rattle.records.specs.Plan.{Move, source_bytes, move_bytes, moves_bytes, step_bytes, header_bytes, written}
 use Rattle.records.specs.declared.plan.Source.TheVariants.{Unnamed, Named}
-
--- single stores, one behind the other
-pub sets-written : (l : List ℕ) (at : ℕ) (bytes : List ℕ) → at + length bytes ≤ length l → sets l at bytes ≡ written l at bytes
-unfolding written
-sets-written l at bytes h = sets-eq bytes l at h ∙ append_assoc (take at l) bytes (drop (at + length bytes) l)
-
-module _ (l : List ℕ) (at : ℕ) where
-  pub move-written : (vm source to : ℕ) → at + written_width ≤ length l →
-      set (set (set l at vm) (at + 1) source) (at + 2) to ≡ written l at (move_bytes (record { vm = vm; source = Named source; to = to }))
-  unfolding move_bytes source_bytes
-  move-written vm source to h = rw (add-one at, add-two at) (sets-written l at (vm ∷ source ∷ to ∷ []) h)
-
-  pub two-written : (x : ℕ) → at + 2 ≤ length l → set (set l at (x / 256 % 256)) (at + 1) (x % 256) ≡ written l at (bytes16 x)
-  unfolding bytes16
-  two-written x h = rw add-one (sets-written l at (x / 256 % 256 ∷ x % 256 ∷ []) h)
-
-  pub four-written : (x : ℕ) → at + 4 ≤ length l →
-      set (set (set (set l at (x / 16777216 % 256)) (at + 1) (x / 65536 % 256)) (at + 2) (x / 256 % 256)) (at + 3) (x % 256) ≡ written l at (bytes32 x)
-  unfolding bytes32
-  four-written x h = rw (add-one at, add-two at, add-three at) (sets-written l at (x / 16777216 % 256 ∷ x / 65536 % 256 ∷ x / 256 % 256 ∷ x % 256 ∷ []) h)
 
 opened : (l : List ℕ) (at : ℕ) (bytes : List ℕ) → written l at bytes ≡ take at l ++ (bytes ++ drop (at + length bytes) l)
 unfolding written
@@ -87,6 +66,10 @@ module _ (l : List ℕ) (at : ℕ) (bs cs : List ℕ) (h : at + length bs + leng
           take at l ++ (bs ++ (cs ++ drop (at + length bs + length cs) l))
       second = rw (rest, written-front l at bs fits) (append_assoc (take at l) bs (cs ++ drop (at + length bs + length cs) l))
 
+  -- the same after a call
+  pub written_on : (m : List ℕ) (place : ℕ) → m ≡ written l at bs → place ≡ at + length bs → written m place cs ≡ written l at (bs ++ cs)
+  written_on m place e p = rw (e, p) written_next
+
   pub written-earlier : written (written l (at + length bs) cs) at bs ≡ written l at (bs ++ cs)
   written-earlier = opened (written l (at + length bs) cs) at bs ∙ first ∙ joined
     where
@@ -109,61 +92,26 @@ pub written-zero : (l bytes : List ℕ) → written l 0 bytes ≡ bytes ++ drop 
 unfolding written
 written-zero l bytes = ap (λ (n : ℕ). bytes ++ drop n l) (zero-add (length bytes))
 
--- the header, written from its end
-pub header-written : (l m n : List ℕ) (version end steps : ℕ) → m ≡ written l 5 (bytes16 steps) → n ≡ written m 1 (bytes32 end) → 7 ≤ length l →
-    set n 0 version ≡ written l 0 (header_bytes version end steps)
-unfolding header_bytes bytes16 bytes32
-header-written l m n version end steps e f h =
-    sets-written n 0 (version ∷ []) (rw nl (omega arith)) ∙
-    ap (λ (x : List ℕ). written x 0 (version ∷ [])) nm ∙
-    written-earlier l 0 (version ∷ []) (bytes32 end ++ bytes16 steps) h
-  where
-    ml : length m ≡ length l
-    ml = ap length e ∙ written-length l 5 (bytes16 steps) h
+-- the header, and a step of one move, put part by part
+module _ (l m : List ℕ) (place : ℕ) where
+  pub header_written : (n : List ℕ) (next version end steps : ℕ) → 7 ≤ length l → m ≡ written l 0 (version ∷ []) → place ≡ 1 → n ≡ written m place (bytes32 end) → next ≡ place + 4 →
+      written n next (bytes16 steps) ≡ written l 0 (header_bytes version end steps)
+  unfolding header_bytes bytes16 bytes32
+  header_written n next version end steps h e p f q =
+      written_on l 0 (version ∷ bytes32 end) (bytes16 steps) h n next (f ∙ written_on l 0 (version ∷ []) (bytes32 end) (omega arith) m place e p) (omega arith)
 
-    nl : length n ≡ length l
-    nl = ap length f ∙ written-length m 1 (bytes32 end) (rw ml (omega arith)) ∙ ml
-
-    nm : n ≡ written l 1 (bytes32 end ++ bytes16 steps)
-    nm = f ∙ ap (λ (x : List ℕ). written x 1 (bytes32 end)) e ∙ written-earlier l 1 (bytes32 end) (bytes16 steps) h
-
--- a step of one move: its count, its VM, its source if it names one, its destination
-module _ (l m : List ℕ) (at vm to : ℕ) (e : m ≡ written l at (bytes16 1)) where
-  behind-count : (bytes : List ℕ) → at + 2 + length bytes ≤ length l → sets m (at + 2) bytes ≡ written l at (bytes16 1 ++ bytes)
-  unfolding bytes16
-  behind-count bytes k =
-      let long = ap length e ∙ written-length l at (bytes16 1) (omega arith) in
-      sets-written m (at + 2) bytes (rw long k) ∙ ap (λ (x : List ℕ). written x (at + 2) bytes) e ∙ written_next l at (bytes16 1) bytes k
-
-  pub plain-written : at + 4 ≤ length l → set (set m (at + 2) vm) (at + 3) to ≡ written l at (step_bytes (record { vm = vm; source = Unnamed; to = to } ∷ []))
-  unfolding step_bytes moves_bytes move_bytes source_bytes bytes16
-  plain-written h = let k : at + 3 ≡ suc (at + 2) = omega arith in rw k (behind-count (vm ∷ to ∷ []) (omega arith))
-
-  pub naming-written : (source : ℕ) → at + 5 ≤ length l →
-      set (set (set m (at + 2) vm) (at + 3) source) (at + 4) to ≡ written l at (step_bytes (record { vm = vm; source = Named source; to = to } ∷ []))
-  unfolding step_bytes moves_bytes move_bytes source_bytes bytes16
-  naming-written source h =
-      let k : at + 3 ≡ suc (at + 2) = omega arith in
-      let j : at + 4 ≡ suc (suc (at + 2)) = omega arith in
-      rw (k, j) (behind-count (vm ∷ source ∷ to ∷ []) (omega arith))
-
--- by whether it names a source
-module _ (l m : List ℕ) (at vm to r : ℕ) (source : Source) where
-  module _ (s : source ≡ Unnamed) where
-    pub plain_end : r ≡ at + 4 → r ≡ at + length (step_bytes (record { vm = vm; source = source; to = to } ∷ []))
+  module _ (at : ℕ) (move : Move) (h : at + 5 ≤ length l) (e : m ≡ written l at (bytes16 1)) (p : place ≡ at + 2) where
+    pub plain-written : (n : List ℕ) (end : ℕ) → move.source ≡ Unnamed → n ≡ written m place (move.vm ∷ move.to ∷ []) → end ≡ place + 2 →
+        (end ≡ at + length (step_bytes (move ∷ []))) × (n ≡ written l at (step_bytes (move ∷ [])))
     unfolding step_bytes moves_bytes move_bytes source_bytes bytes16
-    plain_end e = rw s e
+    plain-written n end s f q = rw s (omega arith, f ∙ written_on l at (bytes16 1) (move.vm ∷ move.to ∷ []) (omega arith) m place e p)
 
-    pub plain-put : m ≡ written l at (step_bytes (record { vm = vm; source = Unnamed; to = to } ∷ [])) → m ≡ written l at (step_bytes (record { vm = vm; source = source; to = to } ∷ []))
-    plain-put e = rw s e
-
-  module _ (from : ℕ) (s : source ≡ Named from) where
-    pub naming-end : r ≡ at + 5 → r ≡ at + length (step_bytes (record { vm = vm; source = source; to = to } ∷ []))
+    pub naming-written : (n : List ℕ) (end from : ℕ) → move.source ≡ Named from → n ≡ written m place (move.vm ∷ from ∷ move.to ∷ []) → end ≡ place + 3 →
+        (end ≡ at + length (step_bytes (move ∷ []))) × (n ≡ written l at (step_bytes (move ∷ [])))
     unfolding step_bytes moves_bytes move_bytes source_bytes bytes16
-    naming-end e = rw s e
+    naming-written n end from s f q = rw s (omega arith, f ∙ written_on l at (bytes16 1) (move.vm ∷ from ∷ move.to ∷ []) (omega arith) m place e p)
 
-    pub naming-put : m ≡ written l at (step_bytes (record { vm = vm; source = Named from; to = to } ∷ [])) → m ≡ written l at (step_bytes (record { vm = vm; source = source; to = to } ∷ []))
-    naming-put e = rw s e
+pub ruleset single_written = (plain-written, naming-written)
 
 -- ---- a list put into a buffer element by element: the first i are those of the list, the others as they were
 

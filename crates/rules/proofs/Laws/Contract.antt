@@ -1,18 +1,16 @@
 -- The contract of `check` as one law: every reserve and two records, and the number that the verdict on them packs to, have what `Checked` promises. Behind
 -- it what follows of two calls.
-use Prim.Native.Nat.{ℕ, suc, ◌≤◌, ◌<◌, ◌^◌}
+use Prim.Native.Nat.{ℕ, suc, ◌<◌, ◌^◌}
 use mathlib.Core.List.{List, []}
 use mathlib.Core.Logic.Iff
 use mathlib.Core.Logic.{◌↔◌, ◌⊎◌}
 use mathlib.Core.Path.{◌≡◌, refl, sym, ap, ◌∙◌}
-use lib.ListN.{length}
+use Rattle.std.specs.Prelude.{Err, Ok}
 use Rattle.records.specs.Bytes.{AreBytes}
-use Rattle.records.specs.Room.{room_of, room_at, cluster_check}
+use Rattle.records.specs.Room.{room_at, cluster_check, IsSound}
 use Rattle.records.specs.Plan.{Step, steps_of, header_bytes}
-use Rattle.records.specs.declared.faults.ClusterCheck.{ClusterCheck}
-use Rattle.records.proofs.Laws.Cluster.{nodes-most}
-use Rattle.records.proofs.Laws.Reserve.{room-nodes}
-use Rattle.records.proofs.Laws.Steps.{all_tell, none-tells}
+use Rattle.records.proofs.Laws.Sound.{read-sound, read-amounts}
+use Rattle.records.proofs.Laws.Steps.{plan-shaped, all_tell, none-tells}
 use Rattle.rules.specs.Moments.{Placement, current_of}
 use Rattle.rules.specs.Rules.{step_check}
 use Rattle.rules.specs.Cost.{cost_of}
@@ -20,10 +18,8 @@ use Rattle.rules.specs.Verdict.{verdict_of, fault_number, fault_step, packed}
 use Rattle.rules.specs.Returned.{told_cost, SaysGood, SaysRefused}
 use Rattle.rules.specs.Promises.{Shaped, FaultNames, FaultSource, FaultDestination, FaultFit, FaultMate, FaultTurn, FirstAtFault, TellsVerdict, Checked}
 use Rattle.rules.specs.declared.faults.StepFault.{StepFault}
-use Rattle.rules.specs.declared.faults.StepCheck.{StepCheck}
 use Rattle.rules.specs.declared.faults.Fault.{Fault}
 use Rattle.rules.specs.declared.faults.Verdict.{Verdict}
-use Rattle.rules.proofs.Laws.Reserve.{cost-same}
 use Rattle.rules.proofs.Laws.Returned.{tells-accepted, tells-refused, says-accepted, accepted-says, says-refused}
 use Rattle.rules.proofs.Laws.Runs.{sound-orders, stays_within}
 use Rattle.rules.proofs.Laws.Spreads.{stays-apart}
@@ -43,12 +39,14 @@ module _ (reserve : ℕ) (cluster plan : List ℕ) (b : AreBytes cluster) where
   cost-is : (cost : ℕ) → verdict_of reserve cluster plan ≡ Verdict.Accepted cost → cost ≡ cost_of (room_at reserve cluster) (steps_of plan)
   cost-is cost e = (accepted-steps reserve cluster plan cost e).cost-is
 
-  cost-most : (cost : ℕ) → verdict_of reserve cluster plan ≡ Verdict.Accepted cost → cost < 2 ^ 43
-  cost-most cost e = rw (cost-is cost e, cost-same reserve (room_of cluster)) (cost-low cluster plan b (only-holds reserve cluster plan cost e).0.plan-whole)
+  -- the room that a whole record stands for
+  sound : cluster_check cluster ≡ Ok tt → IsSound (room_at reserve cluster)
+  sound w = read-sound reserve cluster w
 
-  -- there are no more nodes than a place can name
-  few : cluster_check cluster ≡ ClusterCheck.Whole → length (room_at reserve cluster).nodes ≤ 64
-  few w = rw (room-nodes reserve cluster) (nodes-most cluster w)
+  cost-most : (cost : ℕ) → verdict_of reserve cluster plan ≡ Verdict.Accepted cost → cost < 2 ^ 43
+  cost-most cost e =
+      let o = (only-holds reserve cluster plan cost e).0 in
+      rw (cost-is cost e) (cost-low (room_at reserve cluster) (steps_of plan) (read-amounts reserve cluster b) (plan-shaped plan o.plan-whole))
 
   -- the number tells the verdict
   tells : TellsVerdict (packed (verdict_of reserve cluster plan)) (verdict_of reserve cluster plan)
@@ -69,7 +67,7 @@ module _ (reserve : ℕ) (cluster plan : List ℕ) (b : AreBytes cluster) where
     says f = says-refused r (verdict_of reserve cluster plan) f told
 
     at-step : (fault : StepFault) (n : ℕ) (P : Placement → Step → Type 0) →
-        ((start : Placement) (step : Step) → (step_check (room_at reserve cluster) start step ≡ StepCheck.Faulty fault) ↔ P start step) →
+        ((start : Placement) (step : Step) → (step_check (room_at reserve cluster) start step ≡ Err fault) ↔ P start step) →
         SaysRefused r (fault_number (Fault.Step fault (suc n))) (suc n) ↔ (Shaped reserve cluster plan × FirstAtFault (room_at reserve cluster) (current_of (room_at reserve cluster)) (steps_of plan) n P)
     at-step fault n P iff =
         Iff.trans (says (Fault.Step fault (suc n)))
@@ -97,17 +95,17 @@ module _ (reserve : ℕ) (cluster plan : List ℕ) (b : AreBytes cluster) where
       cost = λ g. cost-is (told_cost r) (accepted g);
       below = λ g. cost-most (told_cost r) (accepted g);
       auditor = λ g.
-          stays_within (room_at reserve cluster) (current_of (room_at reserve cluster)) (steps_of plan) (few (only-holds reserve cluster plan (told_cost r) (accepted g)).0.taken.cluster-whole)
+          stays_within (room_at reserve cluster) (current_of (room_at reserve cluster)) (steps_of plan) (sound (only-holds reserve cluster plan (told_cost r) (accepted g)).0.taken.cluster-whole).nodes-most
           (accepted-steps reserve cluster plan (told_cost r) (accepted g)).sound (current-length (room_at reserve cluster));
       apart = λ g.
           stays-apart (room_at reserve cluster) (current_of (room_at reserve cluster)) (steps_of plan) (accepted-steps reserve cluster plan (told_cost r) (accepted g)).sound (current-length (room_at reserve cluster));
       running = λ g.
           let o = only-holds reserve cluster plan (told_cost r) (accepted g) in
-          keeps-running (room_at reserve cluster) (current_of (room_at reserve cluster)) (steps_of plan) (few o.0.taken.cluster-whole) o.1 (current-length (room_at reserve cluster));
+          keeps-running (room_at reserve cluster) (current_of (room_at reserve cluster)) (steps_of plan) (sound o.0.taken.cluster-whole).nodes-most o.1 (current-length (room_at reserve cluster));
       version-1 = nothing-down reserve cluster;
       waits = λ g.
           let o = only-holds reserve cluster plan (told_cost r) (accepted g) in
-          waits-its-turn (room_at reserve cluster) (current_of (room_at reserve cluster)) (steps_of plan) (first-there reserve cluster o.0.taken.cluster-whole)
+          waits-its-turn (room_at reserve cluster) (current_of (room_at reserve cluster)) (steps_of plan) (first-there (room_at reserve cluster) (sound o.0.taken.cluster-whole))
           (accepted-steps reserve cluster plan (told_cost r) (accepted g)).sound (current-length (room_at reserve cluster));
       sources = λ g v.
           let a = accepted-steps reserve cluster plan (told_cost r) (accepted g) in

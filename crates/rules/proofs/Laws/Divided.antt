@@ -9,11 +9,11 @@ use lib.ListN.{length, get_or, set, length-append, length-set}
 use lib.Seq.{get_or-set_same, set_comm}
 use lib.Dec.{ltb, leb, eqb}
 use borrow.Author.Tests.{eq-eqb, ne_eqb, eqb-true, eqb-false, ltb-true, lt-ltb, leb-true, le-leb, not-true}
+use Rattle.std.specs.Prelude.{Ok}
 use Rattle.records.specs.Base.{pick, all, sum_of}
 use Rattle.records.specs.Room.{Constraint, ban, fence, spread, latency, before, Room, vm_of, room_at, above, rises}
 use Rattle.records.specs.Plan.{Move, Step, names_sources, steps_of, move_total, sized, most_steps, shaped, plan_check, record_bytes, kept_version}
 use Rattle.records.specs.Inner.{suits, suits_source}
-use Rattle.records.specs.declared.faults.PlanCheck.{PlanCheck}
 use Rattle.records.proofs.Laws.Bools.{and_left, and_right, and_both, all_append, all_more, all_same}
 use Rattle.records.proofs.Laws.Cluster.{or-none}
 use Rattle.records.proofs.Laws.Steps.{plan-shaped, total-cons, total-append}
@@ -656,14 +656,14 @@ unfolding suits
 divided-suits version d e = divided-all (λ move. suits_source (names_sources version) move.source) d e
 
 -- the record of the pieces in the plan's version is whole, and stands for them
-module _ (plan : List ℕ) (w : plan_check plan ≡ PlanCheck.Whole) (divided : List Step) (d : Divides (steps_of plan) divided) (h : length divided ≤ most_steps) where
+module _ (plan : List ℕ) (w : plan_check plan ≡ Ok tt) (divided : List Step) (d : Divides (steps_of plan) divided) (h : length divided ≤ most_steps) where
   pub kept-shaped : shaped divided ≡ true
   kept-shaped = divided-shaped d (plan-shaped plan w) h
 
   pub kept-suited : all (suits (kept_version plan)) divided ≡ true
   kept-suited = divided-suits (kept_version plan) d (kept-suits plan)
 
-  pub kept_whole : plan_check (record_bytes (kept_version plan) divided) ≡ PlanCheck.Whole
+  pub kept_whole : plan_check (record_bytes (kept_version plan) divided) ≡ Ok tt
   kept_whole = record-whole (kept_version plan) divided kept-suited kept-shaped (kept-known plan w)
 
   pub kept-steps : steps_of (record_bytes (kept_version plan) divided) ≡ divided
@@ -672,7 +672,7 @@ module _ (plan : List ℕ) (w : plan_check plan ≡ PlanCheck.Whole) (divided : 
 -- ---- an accepted plan, divided
 
 module _ (reserve : ℕ) (cluster plan : List ℕ) (cost : ℕ) (e : verdict_of reserve cluster plan ≡ Verdict.Accepted cost) (divided : List Step) (d : Divides (steps_of plan) divided) where
-  any-record : (other : List ℕ) → plan_check other ≡ PlanCheck.Whole → steps_of other ≡ divided → verdict_of reserve cluster other ≡ Verdict.Accepted (cost_of (room_at reserve cluster) divided)
+  any-record : (other : List ℕ) → plan_check other ≡ Ok tt → steps_of other ≡ divided → verdict_of reserve cluster other ≡ Verdict.Accepted (cost_of (room_at reserve cluster) divided)
   unfolding plan_verdict
   any-record other w q =
       let a = accepted-steps reserve cluster plan cost e in

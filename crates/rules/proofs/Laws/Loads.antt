@@ -1,10 +1,11 @@
 -- Laws on the sums of a step: adding the VMs one by one, each to its place and its destination, gives the tally of every node.
-use Prim.Native.Nat.{ℕ, suc, ◌+◌, ◌-◌, ◌*◌, ◌≤◌, ◌<◌, ◌^◌}
-use mathlib.Core.Bool.{◌||◌, or-false, or-true}
+use Prim.Native.Nat.{ℕ, zero, suc, ◌+◌, ◌*◌, ◌≤◌, ◌<◌, ◌^◌}
+use mathlib.Core.Bool.{Bool, true, false, ◌||◌, or-false, or-true}
 use mathlib.Core.List.{List}
 use mathlib.Core.Logic.{by_cases}
 use mathlib.Core.Path.{◌≡◌, refl, sym, ap, ◌∙◌}
 use native.Mathlib.Decide.{ℕ_discrete, dec_lt}
+use native.Mathlib.Numerals.{add-one}
 use native.Mathlib.Omega.{arith}
 use lib.ListN.{length, get_or, set, replicate, length-set, length-replicate, get_or-replicate, get_or-eq_default}
 use lib.Seq.{get_or-set_same, get_or-set_other}
@@ -13,9 +14,7 @@ use mir.Val.{Fits}
 use lib.Dec.{eqb}
 use borrow.Author.Tests.{eq-eqb, ne_eqb}
 use Rattle.records.specs.Base.{pick}
-use Rattle.records.specs.Room.{Room, vm_of, room_of, vm_count, cluster_check}
-use Rattle.records.specs.declared.faults.ClusterCheck.TheVariants.{Whole}
-use Rattle.records.proofs.Laws.Cluster.{vms-most}
+use Rattle.records.specs.Room.{Vm, Room, vm_of, IsSound}
 use Rattle.rules.specs.Moments.{cell, counts_on, empty_tally, with_vm, tally_at}
 use Rattle.rules.specs.Inner.{NeedOf, goal_in, busy_from, Ready, Loaded, Loads}
 use Rattle.rules.specs.declared.tally.Need.{Need}
@@ -28,16 +27,14 @@ empty-at d =
     by_cases (dec_lt d 256) (λ p. get_or-replicate 256 d empty_tally empty_tally p)
     (λ p. let h : length (replicate 256 empty_tally) ≤ d = simp length-replicate (omega arith) in get_or-eq_default (replicate 256 empty_tally) empty_tally h)
 
-pub loaded-start : (s places dests : List ℕ) (v : ℕ) → v ≡ vm_count s → Loaded s places dests v (replicate 256 empty_tally)
+pub loaded-start : (room : Room) (places dests : List ℕ) → Loaded room places dests 0 (replicate 256 empty_tally)
 unfolding tally_at busy_from
-loaded-start s places dests v e =
-    let z : vm_count s - v ≡ 0 = omega arith in
-    record {
-      size = simp length-replicate;
-      each = λ d h. rw z (empty-at d);
-      memory-most = λ d. rw (empty-at d) (omega arith);
-      cpu-most = λ d. rw (empty-at d) (omega arith);
-    }
+loaded-start room places dests = record {
+  size = simp length-replicate;
+  each = λ d h. empty-at d;
+  memory-most = λ d. rw (empty-at d) (omega arith);
+  cpu-most = λ d. rw (empty-at d) (omega arith);
+}
 
 -- ---- one VM more
 
@@ -86,24 +83,45 @@ module _ (q p : ℕ) (sums : List Tally) (vm : Need) (one two : Tally) (z : leng
           (λ e. rw (e, get_or-set_same sums q one empty_tally (rw z hq) ∙ a) (m (get_or sums q empty_tally)))
           (λ e. rw (get_or-set_other sums q d one empty_tally e) (omega arith))
 
-busy-suc : (room : Room) (places dests : List ℕ) (u n d : ℕ) → tally_at room d (busy_from places dests u (suc n)) ≡
-    pick (counts_on d (cell u (get_or places u 0) (goal_in dests u))) (with_vm (tally_at room d (busy_from places dests (suc u) n)) (vm_of room u)) (tally_at room d (busy_from places dests (suc u) n))
+with-swap : (t : Tally) (a b : Vm) → with_vm (with_vm t a) b ≡ with_vm (with_vm t b) a
+with-swap t a b i =
+    let m : t.memory + a.memory + b.memory ≡ t.memory + b.memory + a.memory = omega arith in
+    let c : t.cpu + a.cpu + b.cpu ≡ t.cpu + b.cpu + a.cpu = omega arith in
+    record { memory = m i; cpu = c i }
+
+-- the last VM is added as the first is
+busy-snoc : (room : Room) (places dests : List ℕ) (u n d : ℕ) → tally_at room d (busy_from places dests u (suc n)) ≡
+    pick (counts_on d (cell (u + n) (get_or places (u + n) 0) (goal_in dests (u + n)))) (with_vm (tally_at room d (busy_from places dests u n)) (vm_of room (u + n))) (tally_at room d (busy_from places dests u n))
 unfolding tally_at busy_from
-busy-suc room places dests u n d = refl
+busy-snoc room places dests u zero d = let z : u + 0 ≡ u = omega arith in rw z
+busy-snoc room places dests u (suc n) d =
+    let z : u + suc n ≡ suc u + n = omega arith in
+    rw (z, busy-snoc room places dests (suc u) n d)
+    (turned (counts_on d (cell u (get_or places u 0) (goal_in dests u))) (counts_on d (cell (suc u + n) (get_or places (suc u + n) 0) (goal_in dests (suc u + n)))))
+  where
+    T : Tally
+    T = tally_at room d (busy_from places dests (suc u) n)
+
+    turned : (a b : Bool) → pick a (with_vm (pick b (with_vm T (vm_of room (suc u + n))) T) (vm_of room u)) (pick b (with_vm T (vm_of room (suc u + n))) T) ≡
+        pick b (with_vm (pick a (with_vm T (vm_of room u)) T) (vm_of room (suc u + n))) (pick a (with_vm T (vm_of room u)) T)
+    turned true true = with-swap T (vm_of room (suc u + n)) (vm_of room u)
+    turned true false = refl
+    turned false true = refl
+    turned false false = refl
 
 -- a place as an index into the sums
 pub place-offset : (p : ℕ) → p < 256 → Fits w64 (p * 16)
 place-offset p h = record { fits = omega arith }
 
 -- a VM can be added to a sum, and to the second once the first has changed
-module _ (s places dests : List ℕ) (v : ℕ) (sums : List Tally) (w : Loaded s places dests v sums) (c : cluster_check s ≡ Whole) where
+module _ (room : Room) (places dests : List ℕ) (v : ℕ) (sums : List Tally) (w : Loaded room places dests v sums) (s : IsSound room) (h : v < length room.vms) where
   pub light-memory : (d : ℕ) → (get_or sums d empty_tally).memory < 2 ^ 40
-  light-memory d = let m = vms-most s c in let h = w.memory-most d in omega arith
+  light-memory d = let m = s.vms-most in let k = w.memory-most d in omega arith
 
   pub light-cpu : (d : ℕ) → (get_or sums d empty_tally).cpu < 2 ^ 40
-  light-cpu d = let m = vms-most s c in let h = w.cpu-most d in omega arith
+  light-cpu d = let m = s.vms-most in let k = w.cpu-most d in omega arith
 
-  module _ (q p : ℕ) (vm : Need) (one : Tally) (m : NeedOf (room_of s) (v - 1) vm) (hq : q < 256)
+  module _ (q p : ℕ) (vm : Need) (one : Tally) (m : NeedOf room v vm) (hq : q < 256)
       (a : one ≡ record { memory = (get_or sums q empty_tally).memory + vm.memory; cpu = (get_or sums q empty_tally).cpu + vm.cpu }) where
     second-light : (f : Tally → ℕ) → f one < 2 ^ 40 → f (get_or sums p empty_tally) < 2 ^ 40 → f (get_or (set sums q one) p empty_tally) < 2 ^ 40
     second-light f x y =
@@ -112,61 +130,46 @@ module _ (s places dests : List ℕ) (v : ℕ) (sums : List Tally) (w : Loaded s
 
     pub second-memory : (get_or (set sums q one) p empty_tally).memory < 2 ^ 40
     second-memory =
-        let x : one.memory < 2 ^ 40 = rw a (let k = m.memory-most in let h = w.memory-most q in let n = vms-most s c in omega arith) in
+        let x : one.memory < 2 ^ 40 = rw a (let k = m.memory-most in let o = w.memory-most q in let n = s.vms-most in omega arith) in
         second-light (λ (t : Tally). t.memory) x (light-memory p)
 
     pub second-cpu : (get_or (set sums q one) p empty_tally).cpu < 2 ^ 40
     second-cpu =
-        let x : one.cpu < 2 ^ 40 = rw a (let k = m.cpu-most in let h = w.cpu-most q in let n = vms-most s c in omega arith) in
+        let x : one.cpu < 2 ^ 40 = rw a (let k = m.cpu-most in let o = w.cpu-most q in let n = s.vms-most in omega arith) in
         second-light (λ (t : Tally). t.cpu) x (light-cpu p)
 
--- the turn, at VM u = v - 1
-module _ (s places dests : List ℕ) (v q p : ℕ) (sums : List Tally) (vm : Need) (one two : Tally) (w : Loaded s places dests v sums)
-    (r : Ready s places dests) (m : NeedOf (room_of s) (v - 1) vm) (y : q ≡ get_or dests (v - 1) 0) (x : p ≡ get_or places (v - 1) 0) (load-dest : q < 256) (load-place : p < 256) (h : 0 < v) (k : v ≤ vm_count s) where
-  here : v - 1 < vm_count s
-  here = omega arith
-
+-- the turn, at VM v
+module _ (room : Room) (places dests : List ℕ) (v q p : ℕ) (sums : List Tally) (vm : Need) (one two : Tally) (w : Loaded room places dests v sums)
+    (r : Ready room places dests) (m : NeedOf room v vm) (y : q ≡ get_or dests v 0) (x : p ≡ get_or places v 0) (load-dest : q < 256) (load-place : p < 256) (h : v < length room.vms) where
   load-leaves : (d : ℕ) → d < 64 → q ≡ d → p ≡ d → ⊥
-  load-leaves d l e f = r.leaves (v - 1) here (rw (← y, e) l) (sym y ∙ e ∙ sym f ∙ x)
+  load-leaves d l e f = r.leaves v h (rw (← y, e) l) (sym y ∙ e ∙ sym f ∙ x)
 
   module _ (a : one ≡ record { memory = (get_or sums q empty_tally).memory + vm.memory; cpu = (get_or sums q empty_tally).cpu + vm.cpu })
       (b : two ≡ record { memory = (get_or (set sums q one) p empty_tally).memory + vm.memory; cpu = (get_or (set sums q one) p empty_tally).cpu + vm.cpu }) where
-    pub loaded-more : Loaded s places dests (v - 1) (set (set sums q one) p two)
+    last : (d : ℕ) → tally_at room d (busy_from places dests 0 (suc v)) ≡
+        pick (counts_on d (cell v (get_or places v 0) (goal_in dests v))) (with_vm (tally_at room d (busy_from places dests 0 v)) (vm_of room v)) (tally_at room d (busy_from places dests 0 v))
+    last d = let z : 0 + v ≡ v = omega arith in rw z at (busy-snoc room places dests 0 v d)
+
+    pub loaded-more : Loaded room places dests (v + 1) (set (set sums q one) p two)
     unfolding plus
-    loaded-more =
-        let less : vm_count s - (v - 1) ≡ suc (vm_count s - v) = omega arith in
-        let next : suc (v - 1) ≡ v = omega arith in
-        record {
-          size = length-set (set sums q one) p two ∙ length-set sums q one ∙ w.size;
-          each = λ d g.
-              after_both q p sums vm one two w.size load-dest load-place a b d (load-leaves d g) ∙
-              rw (
-                less,
-                busy-suc (room_of s) places dests (v - 1) (vm_count s - v) d,
-                counts-is dests (v - 1) (get_or places (v - 1) 0) d g,
-                next,
-                ← w.each d g,
-                x,
-                y,
-              )
-              (ap (λ (t : Tally). pick (eqb (get_or places (v - 1) 0) d || eqb (get_or dests (v - 1) 0) d) t (get_or sums d empty_tally)) (plus-is (room_of s) (v - 1) vm (get_or sums d empty_tally) m));
-          memory-most = λ d. rw less (let n = m.memory-most in let e = w.memory-most d in
-              let g = more-most q p sums vm one two w.size load-dest load-place a b (λ (t : Tally). t.memory) vm.memory (λ t. omega arith) d in omega arith);
-          cpu-most = λ d. rw less (let n = m.cpu-most in let e = w.cpu-most d in
-              let g = more-most q p sums vm one two w.size load-dest load-place a b (λ (t : Tally). t.cpu) vm.cpu (λ t. omega arith) d in omega arith);
-        }
+    loaded-more = record {
+      size = length-set (set sums q one) p two ∙ length-set sums q one ∙ w.size;
+      each = λ d g.
+          after_both q p sums vm one two w.size load-dest load-place a b d (load-leaves d g) ∙
+          rw (add-one v, last d, counts-is dests v (get_or places v 0) d g, ← w.each d g, x, y)
+          (ap (λ (t : Tally). pick (eqb (get_or places v 0) d || eqb (get_or dests v 0) d) t (get_or sums d empty_tally)) (plus-is room v vm (get_or sums d empty_tally) m));
+      memory-most = λ d. let n = m.memory-most in let e = w.memory-most d in
+          let g = more-most q p sums vm one two w.size load-dest load-place a b (λ (t : Tally). t.memory) vm.memory (λ t. omega arith) d in omega arith;
+      cpu-most = λ d. let n = m.cpu-most in let e = w.cpu-most d in
+          let g = more-most q p sums vm one two w.size load-dest load-place a b (λ (t : Tally). t.cpu) vm.cpu (λ t. omega arith) d in omega arith;
+    }
 
 -- ---- the end
 
-pub loaded-end : (s places dests : List ℕ) (v : ℕ) (sums : List Tally) → Loaded s places dests v sums → v ≤ 0 → Loads s places dests sums
-loaded-end s places dests v sums w h =
-    let start : v ≡ 0 = omega arith in
-    let total : vm_count s - v ≡ vm_count s = omega arith in
-    record {
-      size = w.size;
-      each = λ d g.
-          w.each d g ∙ ap (λ (i : ℕ). tally_at (room_of s) d (busy_from places dests i (vm_count s - v))) start ∙
-          ap (λ (n : ℕ). tally_at (room_of s) d (busy_from places dests 0 n)) total;
-      memory-most = λ d. rw total at (w.memory-most d);
-      cpu-most = λ d. rw total at (w.cpu-most d);
-    }
+pub loaded-end : (room : Room) (places dests : List ℕ) (v : ℕ) (sums : List Tally) → Loaded room places dests v sums → v ≡ length room.vms → Loads room places dests sums
+loaded-end room places dests v sums w e = record {
+  size = w.size;
+  each = λ d g. w.each d g ∙ ap (λ (n : ℕ). tally_at room d (busy_from places dests 0 n)) e;
+  memory-most = λ d. rw e at (w.memory-most d);
+  cpu-most = λ d. rw e at (w.cpu-most d);
+}

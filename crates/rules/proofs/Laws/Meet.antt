@@ -1,7 +1,7 @@
 -- The passes over the spreads find exactly the mates that meet with every move running.
 use Prim.Native.Nat.{ℕ, zero, suc, ◌+◌, ◌≤◌, ◌<◌}
 use mathlib.Core.Bool.{Bool, true, false, not, ◌&&◌, ◌||◌, and-false, or-true}
-use mathlib.Core.List.{List, [], ◌∷◌, map}
+use mathlib.Core.List.{List, [], ◌∷◌}
 use mathlib.Core.Logic.{◌⊎◌, inl, inr, ⊎_elim, by_cases}
 use mathlib.Core.Path.{◌≡◌, refl, sym, ap, ◌∙◌}
 use native.Mathlib.Decide.{ℕ_discrete, dec_lt}
@@ -11,11 +11,9 @@ use lib.Seq.{get_or-set_same, get_or-set_other}
 use lib.Dec.{ltb, eqb}
 use borrow.Author.Tests.{lt-ltb, le-ltb, eq-eqb, ne_eqb, eqb-true, eqb-false, ltb-true, not-true}
 use Rattle.records.specs.Base.{pick, all}
-use Rattle.records.specs.Room.{Constraint, ban, fence, spread, latency, before, has, above, rises, list_ok, room_of, vm_count, node_count, parts_of, constraint_of, constraint_ok, filled, well_formed, cluster_check}
+use Rattle.records.specs.Room.{Constraint, ban, fence, spread, latency, before, has, above, rises, list_ok, Room, constraint_ok, IsSound}
 use Rattle.records.specs.Plan.{Step, move_of, no_move}
-use Rattle.records.specs.declared.faults.ClusterCheck.TheVariants.{Whole}
 use Rattle.records.proofs.Laws.Bools.{and_left, and_right, and_both, bool_iff, all-at, all-and}
-use Rattle.records.proofs.Laws.Cluster.{undamaged, nodes-most, vms-most, vms-count}
 use Rattle.records.proofs.Laws.Rows.{node-on, near_on, far-off}
 use Rattle.rules.specs.Moments.{Cell, cell, Moment, number_of, counts_on}
 use Rattle.rules.specs.Orders.{spreads, some, mates, meets_mate}
@@ -139,12 +137,12 @@ module _ (E : ℕ → ℕ) where
 -- ---- the passes
 
 -- on the nodes, the marks stand where f holds
-pub record Marks (marks : List ℕ) (f : ℕ → Bool) : Type 0 where
+pub record Marks (marks : List Bool) (f : ℕ → Bool) : Type 0 where
   pub size : length marks ≡ 256
-  pub each : (d : ℕ) → d < 64 → get_or marks d 0 ≡ pick (f d) 1 0
+  pub each : (d : ℕ) → d < 64 → get_or marks d false ≡ f d
 
-pub marks-none : Marks (replicate 256 0) (λ d. false)
-marks-none = record { size = length-replicate {A = ℕ} 256 0; each = λ d h. get_or-replicate {A = ℕ} 256 d 0 0 (omega arith) }
+pub marks-none : Marks (replicate 256 false) (λ d. false)
+marks-none = record { size = length-replicate {A = Bool} 256 false; each = λ d h. get_or-replicate {A = Bool} 256 d false false (omega arith) }
 
 -- a VM at p is on node d
 abbrev at_node : ℕ → ℕ → Bool
@@ -154,15 +152,15 @@ never-far : (p d : ℕ) → 64 ≤ d → at_node p d ≡ false
 never-far p d h = not-both (eqb p d) (ltb p 64) (λ x y. let a = eqb-true p d x in let c = ltb-true p 64 y in omega arith)
 
 -- another mark
-marks-set : (marks : List ℕ) (f : ℕ → Bool) (p : ℕ) → Marks marks f → Marks (set marks p 1) (λ d. at_node p d || f d)
-marks-set marks f p k = record { size = length-set marks p 1 ∙ k.size; each = each }
+marks-set : (marks : List Bool) (f : ℕ → Bool) (p : ℕ) → Marks marks f → Marks (set marks p true) (λ d. at_node p d || f d)
+marks-set marks f p k = record { size = length-set marks p true ∙ k.size; each = each }
   where
-    each : (d : ℕ) → d < 64 → get_or (set marks p 1) d 0 ≡ pick (at_node p d || f d) 1 0
+    each : (d : ℕ) → d < 64 → get_or (set marks p true) d false ≡ (at_node p d || f d)
     each d l =
         by_cases (ℕ_discrete p d)
         (λ q. let h : p < 64 = rw q l in
-        rw (← q) (simp (eq-eqb p p refl, lt-ltb p 64 h) (get_or-set_same marks p 1 0 (rw k.size (omega arith)))))
-        (λ q. rw (ne_eqb p d q) (get_or-set_other marks p d 1 0 (λ x. q (sym x)) ∙ k.each d l))
+        rw (← q) (simp (eq-eqb p p refl, lt-ltb p 64 h) (get_or-set_same marks p true false (rw k.size (omega arith)))))
+        (λ q. rw (ne_eqb p d q) (get_or-set_other marks p d true false (λ x. q (sym x)) ∙ k.each d l))
 
 -- the nodes of the VMs of a list
 starts_at : List ℕ → List ℕ → ℕ → Bool
@@ -192,39 +190,35 @@ or_turned : (a b c : Bool) → (b || (a || c)) ≡ ((a || b) || c)
 or_turned true b c = or-true b
 or_turned false b c = refl
 
-starts-marks : (marks places vs : List ℕ) (f : ℕ → Bool) → Marks marks f → Marks (start_marks marks places vs) (λ d. starts_at places vs d || f d)
-unfolding start_marks starts_at
+starts-marks : (marks : List Bool) (places vs : List ℕ) (f : ℕ → Bool) → Marks marks f → Marks (start_marks marks places vs) (λ d. starts_at places vs d || f d)
+unfolding starts_at
 starts-marks marks places [] f k = k
 starts-marks marks places (x ∷ xs) f k =
     let p = get_or places x 0 in
-    let w = starts-marks (set marks p 1) places xs (λ d. at_node p d || f d) (marks-set marks f p k) in
-    record { size = w.size; each = λ d l. w.each d l ∙ ap (λ (c : Bool). pick c 1 0) (or_turned (at_node p d) (starts_at places xs d) (f d)) }
+    let w = starts-marks (set marks p true) places xs (λ d. at_node p d || f d) (marks-set marks f p k) in
+    record { size = w.size; each = λ d l. w.each d l ∙ or_turned (at_node p d) (starts_at places xs d) (f d) }
 
-mark-flag : (b : Bool) → eqb (pick b 1 0) 0 ≡ not b
-mark-flag true = refl
-mark-flag false = refl
-
-pick-and : (a b : Bool) → pick a b false ≡ (a && b)
+pick-and : (a b : Bool) → pick a false b ≡ (not a && b)
 pick-and true b = refl
 pick-and false b = refl
 
-pub go-arrives : (marks dests vs : List ℕ) (f : ℕ → Bool) → Marks marks f → ((d : ℕ) → 64 ≤ d → f d ≡ false) → go_unmet marks dests vs ≡ arrives (λ v. get_or dests v 0) f vs
-unfolding go_unmet arrives
+pub go-arrives : (marks : List Bool) (dests vs : List ℕ) (f : ℕ → Bool) → Marks marks f → ((d : ℕ) → 64 ≤ d → f d ≡ false) → go_unmet marks dests vs ≡ arrives (λ v. get_or dests v 0) f vs
+unfolding arrives
 go-arrives marks dests [] f k z = refl
 go-arrives marks dests (x ∷ xs) f k z =
     let e = get_or dests x 0 in
     let far : (d : ℕ) → 64 ≤ d → (at_node e d || f d) ≡ false = λ d h. rw (never-far e d h, z d h) in
     by_cases (dec_lt e 64)
-    (λ l. ap (λ (b : Bool). pick b (pick (eqb (get_or marks e 0) 0) (go_unmet (set marks e 1) dests xs) false) (go_unmet marks dests xs)) (lt-ltb e 64 l) ∙
-    rw (k.each e l, mark-flag (f e), go-arrives (set marks e 1) dests xs (λ d. at_node e d || f d) (marks-set marks f e k) far) (pick-and (not (f e)) _))
-    (λ l. ap (λ (b : Bool). pick b (pick (eqb (get_or marks e 0) 0) (go_unmet (set marks e 1) dests xs) false) (go_unmet marks dests xs)) (le-ltb e 64 (omega arith)) ∙
+    (λ l. ap (λ (b : Bool). pick b (pick (get_or marks e false) false (go_unmet (set marks e true) dests xs)) (go_unmet marks dests xs)) (lt-ltb e 64 l) ∙
+    rw (k.each e l, go-arrives (set marks e true) dests xs (λ d. at_node e d || f d) (marks-set marks f e k) far) (pick-and (f e) _))
+    (λ l. ap (λ (b : Bool). pick b (pick (get_or marks e false) false (go_unmet (set marks e true) dests xs)) (go_unmet marks dests xs)) (le-ltb e 64 (omega arith)) ∙
     rw (z e (omega arith)) (go-arrives marks dests xs (λ d. at_node e d || f d) (unmarked e (omega arith)) far))
   where
     -- no node, no mark
     unmarked : (e : ℕ) → 64 ≤ e → Marks marks (λ d. at_node e d || f d)
     unmarked e h = record {
       size = k.size;
-      each = λ d l. k.each d l ∙ ap (λ (c : Bool). pick (c || f d) 1 0) (sym (ap (λ (b : Bool). eqb e d && b) (le-ltb e 64 h) ∙ and-false (eqb e d)));
+      each = λ d l. k.each d l ∙ ap (λ (c : Bool). c || f d) (sym (ap (λ (b : Bool). eqb e d && b) (le-ltb e 64 h) ∙ and-false (eqb e d)));
     }
 
 -- ---- one spread: its VMs arrive apart, and none where one starts
@@ -234,10 +228,10 @@ module _ (places dests vs : List ℕ) where
   dest-of v = get_or dests v 0
 
   list-arrives : list_unmet places dests vs ≡ arrives dest-of (λ d. starts_at places vs d || false) vs
-  unfolding list_unmet dest-of
+  unfolding dest-of
   list-arrives =
-      go-arrives (start_marks (replicate 256 0) places vs) dests vs (λ d. starts_at places vs d || false)
-      (starts-marks (replicate 256 0) places vs (λ d. false) marks-none) (λ d h. rw (starts_none places vs d (λ w k q l. omega arith)))
+      go-arrives (start_marks (replicate 256 false) places vs) dests vs (λ d. starts_at places vs d || false)
+      (starts-marks (replicate 256 false) places vs (λ d. false) marks-none) (λ d h. rw (starts_none places vs d (λ w k q l. omega arith)))
 
   list-free : list_unmet places dests vs ≡ true → (v w : ℕ) → has vs v ≡ true → has vs w ≡ true → get_or places w 0 ≡ get_or dests v 0 → get_or dests v 0 < 64 → ⊥
   unfolding dest-of
@@ -271,21 +265,9 @@ unfolding some busy_from
 busy-none q places dests v zero h = refl
 busy-none q places dests v (suc n) h = rw (h v (omega arith) (omega arith), busy-none q places dests (suc v) n (λ w a b. h w (omega arith) (omega arith)))
 
--- ---- the constraints of an undamaged record are sound
-
-parts-ok : (v n : ℕ) (ps : List (List ℕ)) → all (well_formed v n) ps ≡ true → all (constraint_ok v n) (map constraint_of ps) ≡ true
-unfolding all well_formed
-parts-ok v n [] e = refl
-parts-ok v n (p ∷ ps) e =
-    and_both (and_right (filled p) _ (and_left (filled p && constraint_ok v n (constraint_of p)) _ e)) (parts-ok v n ps (and_right (filled p && constraint_ok v n (constraint_of p)) _ e))
-
-pub constraints-ok : (s : List ℕ) → cluster_check s ≡ Whole → all (constraint_ok (vm_count s) (node_count s)) (room_of s).constraints ≡ true
-unfolding room_of
-constraints-ok s w = parts-ok (vm_count s) (node_count s) (parts_of s) (undamaged s w).parts
-
 -- ---- all spreads
 
-module _ (s places : List ℕ) (step : Step) (w : cluster_check s ≡ Whole) (n : named (room_of s) (held s places) 0 step ≡ true) (r : Ready s places (dests_from step)) where
+module _ (room : Room) (places : List ℕ) (step : Step) (w : IsSound room) (n : named room (held room places) 0 step ≡ true) (r : Ready room places (dests_from step)) where
   E : ℕ → ℕ
   E v = get_or (dests_from step) v 0
 
@@ -298,11 +280,11 @@ module _ (s places : List ℕ) (step : Step) (w : cluster_check s ≡ Whole) (n 
   counts d u h = counts-is (dests_from step) u (get_or places u 0) d h
 
   -- a spread's VMs are in range and rise
-  list-in : (vs : List ℕ) → list_ok (vm_count s) vs ≡ true → (v : ℕ) → has vs v ≡ true → v < vm_count s
+  list-in : (vs : List ℕ) → list_ok (length room.vms) vs ≡ true → (v : ℕ) → has vs v ≡ true → v < length room.vms
   unfolding list_ok
-  list-in vs e v h = has-below (vm_count s) v vs (and_right (rises vs) _ e) h
+  list-in vs e v h = has-below (length room.vms) v vs (and_right (rises vs) _ e) h
 
-  spread_at : (k : Constraint) → constraint_ok (vm_count s) (node_count s) k ≡ true → spread_ok places (dests_from step) k ≡ true → (v u : ℕ) → spreads v u k ≡ true → (v ≡ u → ⊥) → E v < 64 →
+  spread_at : (k : Constraint) → constraint_ok (length room.vms) (length room.nodes) k ≡ true → spread_ok places (dests_from step) k ≡ true → (v u : ℕ) → spreads v u k ≡ true → (v ≡ u → ⊥) → E v < 64 →
       (eqb (P u) (E v) || eqb (E u) (E v)) ≡ false
   unfolding spread_ok spreads constraint_ok P E
   spread_at (ban vs nodes) c o v u e m l = never (sym e)
@@ -318,61 +300,61 @@ module _ (s places : List ℕ) (step : Step) (w : cluster_check s ≡ Whole) (n 
       )
 
   busy : Moment
-  busy = busy_from places (dests_from step) 0 (vm_count s)
+  busy = busy_from places (dests_from step) 0 (length room.vms)
 
   both_ok : Constraint → Bool
-  both_ok k = constraint_ok (vm_count s) (node_count s) k && spread_ok places (dests_from step) k
+  both_ok k = constraint_ok (length room.vms) (length room.nodes) k && spread_ok places (dests_from step) k
 
   -- all spreads pass: a mate of a moved VM does not count on its destination
-  apart_from : all (spread_ok places (dests_from step)) (room_of s).constraints ≡ true → (v u d : ℕ) → d < 64 → E v ≡ d → mates (room_of s) v u ≡ true →
+  apart_from : all (spread_ok places (dests_from step)) room.constraints ≡ true → (v u d : ℕ) → d < 64 → E v ≡ d → mates room v u ≡ true →
       counts_on d (cell u (P u) (goal_in (dests_from step) u)) ≡ true → ⊥
   unfolding mates both_ok
   apart_from o v u d l e p q =
-      let m = eqb-false v u (not-true (eqb v u) (and_left (not (eqb v u)) (some (spreads v u) (room_of s).constraints) p)) in
-      let a : all (λ k. constraint_ok (vm_count s) (node_count s) k && spread_ok places (dests_from step) k) (room_of s).constraints ≡ true =
-      all-and (constraint_ok (vm_count s) (node_count s)) (spread_ok places (dests_from step)) (room_of s).constraints ∙ and_both (constraints-ok s w) o in
-      let f = found-both (spreads v u) both_ok (room_of s).constraints (and_right (not (eqb v u)) (some (spreads v u) (room_of s).constraints) p) a in
-      let c = and_left (constraint_ok (vm_count s) (node_count s) f.0) (spread_ok places (dests_from step) f.0) f.2 in
-      let b = and_right (constraint_ok (vm_count s) (node_count s) f.0) (spread_ok places (dests_from step) f.0) f.2 in
+      let m = eqb-false v u (not-true (eqb v u) (and_left (not (eqb v u)) (some (spreads v u) room.constraints) p)) in
+      let a : all (λ k. constraint_ok (length room.vms) (length room.nodes) k && spread_ok places (dests_from step) k) room.constraints ≡ true =
+      all-and (constraint_ok (length room.vms) (length room.nodes)) (spread_ok places (dests_from step)) room.constraints ∙ and_both w.well-formed o in
+      let f = found-both (spreads v u) both_ok room.constraints (and_right (not (eqb v u)) (some (spreads v u) room.constraints) p) a in
+      let c = and_left (constraint_ok (length room.vms) (length room.nodes) f.0) (spread_ok places (dests_from step) f.0) f.2 in
+      let b = and_right (constraint_ok (length room.vms) (length room.nodes) f.0) (spread_ok places (dests_from step) f.0) f.2 in
       let t : E v < 64 = rw e l in
       let g = spread_at f.0 c b v u f.1 m t in
       never (sym q ∙ counts d u l ∙ ap (λ (x : ℕ). eqb (P u) x || eqb (E u) x) (sym e) ∙ g)
 
-  forth : all (spread_ok places (dests_from step)) (room_of s).constraints ≡ true → (i : ℕ) → i < length step →
-      meets_mate (room_of s) busy (move_of step i).vm (move_of step i).to ≡ false
+  forth : all (spread_ok places (dests_from step)) room.constraints ≡ true → (i : ℕ) → i < length step →
+      meets_mate room busy (move_of step i).vm (move_of step i).to ≡ false
   unfolding meets_mate busy P E
   forth o i h =
-      let a = phase-at (room_of s) (held s places) 0 step i n h in
-      let m = vms-most s w in
-      let k : (move_of step i).vm < vm_count s = rw (vms-count s) at a.2 in
-      let e = phase-dest s places step w n (move_of step i).vm (move_of step i).to (omega arith) a.0 in
-      let t = (named-is-aimed s places step w n).each i h in
+      let a = phase-at room (held room places) 0 step i n h in
+      let m = w.vms-most in
+      let k : (move_of step i).vm < length room.vms = a.2 in
+      let e = phase-dest room places step w n (move_of step i).vm (move_of step i).to (omega arith) a.0 in
+      let t = (named-is-aimed room places step w n).each i h in
       by_cases (dec_lt (move_of step i).to 64)
-      (λ l. rw (near_on (node_count s) (move_of step i).to (nodes-most s w) t l)
-      (busy-none (λ c. mates (room_of s) (move_of step i).vm (number_of c) && counts_on (move_of step i).to c) places (dests_from step) 0 (vm_count s)
-      (λ u x y. not-both (mates (room_of s) (move_of step i).vm u) (counts_on (move_of step i).to (cell u (get_or places u 0) (goal_in (dests_from step) u)))
+      (λ l. rw (near_on (length room.nodes) (move_of step i).to (w.nodes-most) t l)
+      (busy-none (λ c. mates room (move_of step i).vm (number_of c) && counts_on (move_of step i).to c) places (dests_from step) 0 (length room.vms)
+      (λ u x y. not-both (mates room (move_of step i).vm u) (counts_on (move_of step i).to (cell u (get_or places u 0) (goal_in (dests_from step) u)))
       (λ p q. apart_from o (move_of step i).vm u (move_of step i).to l e p q))))
-      (λ l. rw (far-off (node_count s) (move_of step i).to (nodes-most s w) t (omega arith)))
+      (λ l. rw (far-off (length room.nodes) (move_of step i).to (w.nodes-most) t (omega arith)))
 
   -- no moved VM meets a mate: each spread passes
-  module _ (o : all (λ move. not (meets_mate (room_of s) busy move.vm move.to)) step ≡ true) where
-    clear : (v u : ℕ) → v < vm_count s → u < vm_count s → mates (room_of s) v u ≡ true → E v < 64 → (eqb (P u) (E v) || eqb (E u) (E v)) ≡ false
+  module _ (o : all (λ move. not (meets_mate room busy move.vm move.to)) step ≡ true) where
+    clear : (v u : ℕ) → v < length room.vms → u < length room.vms → mates room v u ≡ true → E v < 64 → (eqb (P u) (E v) || eqb (E u) (E v)) ≡ false
     unfolding meets_mate busy P E
     clear v u hv hu m l =
-        let c = vms-most s w in
-        let ph = dest-phase s places step w n v (omega arith) l in
-        let g = not-true (meets_mate (room_of s) busy v (get_or (dests_from step) v 0)) (phase-all (λ u d. not (meets_mate (room_of s) busy u d)) step v (get_or (dests_from step) v 0) o ph) in
-        let q : some (λ c. mates (room_of s) v (number_of c) && counts_on (get_or (dests_from step) v 0) c) (busy_from places (dests_from step) 0 (vm_count s)) ≡ false = rw (node-on 64 (get_or (dests_from step) v 0) (omega arith) l) at g in
-        let b = busy-some (λ c. mates (room_of s) v (number_of c) && counts_on (get_or (dests_from step) v 0) c) places (dests_from step) 0 (vm_count s) u q (omega arith) (omega arith) in
+        let c = w.vms-most in
+        let ph = dest-phase room places step w n v (omega arith) l in
+        let g = not-true (meets_mate room busy v (get_or (dests_from step) v 0)) (phase-all (λ u d. not (meets_mate room busy u d)) step v (get_or (dests_from step) v 0) o ph) in
+        let q : some (λ c. mates room v (number_of c) && counts_on (get_or (dests_from step) v 0) c) (busy_from places (dests_from step) 0 (length room.vms)) ≡ false = rw (node-on 64 (get_or (dests_from step) v 0) (omega arith) l) at g in
+        let b = busy-some (λ c. mates room v (number_of c) && counts_on (get_or (dests_from step) v 0) c) places (dests_from step) 0 (length room.vms) u q (omega arith) (omega arith) in
         sym (counts (get_or (dests_from step) v 0) u l) ∙ (simp m at b)
 
-    spread-mates : (i : ℕ) (d : Constraint) (vs : List ℕ) → i < length (room_of s).constraints → get_or (room_of s).constraints i d ≡ spread vs → (v u : ℕ) → has vs v ≡ true → has vs u ≡ true →
-        (v ≡ u → ⊥) → mates (room_of s) v u ≡ true
+    spread-mates : (i : ℕ) (d : Constraint) (vs : List ℕ) → i < length room.constraints → get_or room.constraints i d ≡ spread vs → (v u : ℕ) → has vs v ≡ true → has vs u ≡ true →
+        (v ≡ u → ⊥) → mates room v u ≡ true
     unfolding mates spreads
     spread-mates i d vs h e v u a b m =
-        and_both (ap not (ne_eqb v u m)) (some_at (spreads v u) (room_of s).constraints i d h (rw e (and_both a b)))
+        and_both (ap not (ne_eqb v u m)) (some_at (spreads v u) room.constraints i d h (rw e (and_both a b)))
 
-    back_at : (i : ℕ) (d k : Constraint) → i < length (room_of s).constraints → get_or (room_of s).constraints i d ≡ k → constraint_ok (vm_count s) (node_count s) k ≡ true →
+    back_at : (i : ℕ) (d k : Constraint) → i < length room.constraints → get_or room.constraints i d ≡ k → constraint_ok (length room.vms) (length room.nodes) k ≡ true →
         spread_ok places (dests_from step) k ≡ true
     unfolding spread_ok constraint_ok list_ok P E
     back_at i d (ban vs nodes) h e c = refl
@@ -380,7 +362,7 @@ module _ (s places : List ℕ) (step : Step) (w : cluster_check s ≡ Whole) (n 
     back_at i d (latency vs groups) h e c = refl
     back_at i d (before first second) h e c = refl
     back_at i d (spread vs) h e c =
-        let inside : (x : ℕ) → has vs x ≡ true → x < vm_count s = list-in vs c in
+        let inside : (x : ℕ) → has vs x ≡ true → x < length room.vms = list-in vs c in
         list_all places (dests_from step) vs (and_left (rises vs) _ c)
         (λ v u a b q l. by_cases (ℕ_discrete v u)
         (λ y. r.leaves v (inside v a) l (sym q ∙ ap (λ (x : ℕ). get_or places x 0) (sym y)))
@@ -389,15 +371,15 @@ module _ (s places : List ℕ) (step : Step) (w : cluster_check s ≡ Whole) (n 
         (λ v u a b y q l. let z = clear v u (inside v a) (inside u b) (spread-mates i d vs h e v u a b y) l in
         eqb-false (get_or (dests_from step) u 0) (get_or (dests_from step) v 0) (neither (eqb (get_or places u 0) (get_or (dests_from step) v 0)) (eqb (get_or (dests_from step) u 0) (get_or (dests_from step) v 0)) z).1 (sym q))
 
-    back : all (spread_ok places (dests_from step)) (room_of s).constraints ≡ true
+    back : all (spread_ok places (dests_from step)) room.constraints ≡ true
     back =
-        all-intro (spread_ok places (dests_from step)) (room_of s).constraints (spread [])
-        (λ i h. back_at i (spread []) (get_or (room_of s).constraints i (spread [])) h refl (all-at (constraint_ok (vm_count s) (node_count s)) (room_of s).constraints i (spread []) (constraints-ok s w) h))
+        all-intro (spread_ok places (dests_from step)) room.constraints (spread [])
+        (λ i h. back_at i (spread []) (get_or room.constraints i (spread [])) h refl (all-at (constraint_ok (length room.vms) (length room.nodes)) room.constraints i (spread []) w.well-formed h))
 
   -- together
-  pub unmet-is : (x : Bool) → x ≡ all (spread_ok places (dests_from step)) (room_of s).constraints → x ≡ unmet (room_of s) (held s places) step
+  pub unmet-is : (x : Bool) → x ≡ all (spread_ok places (dests_from step)) room.constraints → x ≡ unmet room (held room places) step
   unfolding unmet move_of busy
   unmet-is x e =
-      e ∙ rw (← running-is s places step w n)
-      (bool_iff (all (spread_ok places (dests_from step)) (room_of s).constraints) (all (λ move. not (meets_mate (room_of s) busy move.vm move.to)) step)
-      (λ o. all-intro (λ move. not (meets_mate (room_of s) busy move.vm move.to)) step no_move (λ i h. ap not (forth o i h))) back)
+      e ∙ rw (← running-is room places step w n)
+      (bool_iff (all (spread_ok places (dests_from step)) room.constraints) (all (λ move. not (meets_mate room busy move.vm move.to)) step)
+      (λ o. all-intro (λ move. not (meets_mate room busy move.vm move.to)) step no_move (λ i h. ap not (forth o i h))) back)

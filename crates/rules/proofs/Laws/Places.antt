@@ -1,5 +1,5 @@
--- Laws on placements in arrays: filling one from the record, moving, destinations.
-use Prim.Native.Nat.{ℕ, suc, ◌+◌, ◌-◌, ◌≤◌, ◌<◌}
+-- Laws on placements in arrays: filling one from a room, moving, destinations.
+use Prim.Native.Nat.{ℕ, zero, suc, ◌+◌, ◌-◌, ◌≤◌, ◌<◌}
 use mathlib.Core.Bool.{true}
 use mathlib.Core.List.{List, [], ◌∷◌, ◌++◌}
 use mathlib.Core.Logic.{by_cases}
@@ -7,17 +7,15 @@ use mathlib.Core.Path.{◌≡◌, refl, sym, ap, ◌∙◌}
 use native.Mathlib.Decide.{dec_lt}
 use native.Mathlib.Numerals.{add-one}
 use native.Mathlib.Omega.{arith}
-use lib.ListN.{length, get_or, set, take, drop, replicate, length-set, length-map, length-replicate, get_or-replicate, drop_of_length-le, get_or-map, get_or-append, get_or-eq_default, take-append-drop}
-use lib.Seq.{take-suc, take-suc-set, drop-cons, drop-drop, drop-set-lt, take_all, take_at, get_or-append-add}
-use Rattle.records.specs.Room.{Room, no_vm, vm_of, room_of, room_at, node_count, vm_count, place_ok, cluster_check}
-use Rattle.records.specs.Plan.{no_move, move_of, move_count, step_at}
-use Rattle.records.specs.declared.faults.ClusterCheck.TheVariants.{Whole}
-use Rattle.records.proofs.Laws.Cluster.{vms-count, nodes-least, vm-current-place, vm-target-place}
+use lib.ListN.{length, get_or, set, take, drop, replicate, length-set, length-map, length-replicate, get_or-replicate, get_or-map, get_or-append, get_or-eq_default, take-append-drop}
+use lib.Seq.{take-suc, take-suc-set, drop-drop, drop-set-lt, take_all, take_at, get_or-append-add}
+use Rattle.records.specs.Room.{Room, no_vm, vm_of, place_ok, IsSound}
+use Rattle.records.specs.Plan.{Step}
 use Rattle.records.proofs.Laws.Rows.{place-node}
-use Rattle.records.proofs.Laws.Steps.{step-length}
 use Rattle.rules.specs.Moments.{Placement, current_of, target_of, after}
+use Rattle.rules.specs.Rules.{named}
 use Rattle.rules.specs.Inner.{held, Placed, Holds, array_of, Filling, dests_from}
-use Rattle.rules.proofs.Laws.Reserve.{target-same}
+use Rattle.rules.proofs.Laws.Orders.{named-least, named-rest}
 
 -- ---- filling an array from the VM rows
 
@@ -49,112 +47,96 @@ filling-end places placement v f e =
     ap (λ (l : List ℕ). placement ++ l) (f.rest ∙ ap (λ (n : ℕ). replicate (256 - n) 0) (sym e))
 
 -- an array so filled holds the placement
-module _ (s places : List ℕ) (placement : Placement) (q : places ≡ array_of placement) (w : cluster_check s ≡ Whole) (l : length placement ≡ vm_count s)
-    (b : (v : ℕ) → v < vm_count s → place_ok true (node_count s) (get_or placement v 0) ≡ true) where
-  array_places : (v : ℕ) → place_ok true (node_count s) (get_or (array_of placement) v 0) ≡ true
+module _ (room : Room) (places : List ℕ) (placement : Placement) (q : places ≡ array_of placement) (w : IsSound room) (l : length placement ≡ length room.vms)
+    (b : (v : ℕ) → v < length room.vms → place_ok true (length room.nodes) (get_or placement v 0) ≡ true) where
+  array_places : (v : ℕ) → place_ok true (length room.nodes) (get_or (array_of placement) v 0) ≡ true
   unfolding array_of
   array_places v =
       by_cases (dec_lt v (length placement)) (λ h. rw (get_or-append placement (replicate (256 - length placement) 0) 0 v h) (b v (omega arith)))
       (λ h. let k : v ≡ length placement + (v - length placement) = omega arith in
+      let n : 0 < length room.nodes = let m = w.nodes-least in omega arith in
       rw (ap (λ (i : ℕ). get_or (placement ++ replicate (256 - length placement) 0) i 0) k ∙ get_or-append-add placement (replicate (256 - length placement) 0) (v - length placement) 0 ∙
-      zeros (256 - length placement) (v - length placement)) (sym (place-node true (node_count s) 0 (nodes-least s w))))
+      zeros (256 - length placement) (v - length placement)) (sym (place-node true (length room.nodes) 0 n)))
     where
       zeros : (n u : ℕ) → ◌≡◌ {A = ℕ} (get_or (replicate n 0) u 0) 0
       zeros n u =
           by_cases (dec_lt u n) (λ p. get_or-replicate n u 0 0 p)
           (λ p. let h : length {A = ℕ} (replicate n 0) ≤ u = simp length-replicate (omega arith) in get_or-eq_default (replicate n 0) 0 h)
 
-  array-holds : Holds s places placement
+  array-holds : Holds room places placement
   unfolding held array_of
   array-holds = record {
-    is = ap (take (vm_count s)) q ∙ take_at placement (replicate (256 - length placement) 0) (vm_count s) l;
+    is = ap (take (length room.vms)) q ∙ take_at placement (replicate (256 - length placement) 0) (length room.vms) l;
     placed = record { each = λ v. rw q (array_places v) };
   }
 
--- the two placements of the record
-pub current-count : (s : List ℕ) → length (current_of (room_of s)) ≡ vm_count s
-unfolding current_of
-current-count s = length-map (room_of s).vms (λ vm. vm.current) ∙ vms-count s
+-- the two placements of a room
+module _ (room : Room) where
+  pub current-count : length (current_of room) ≡ length room.vms
+  unfolding current_of
+  current-count = length-map room.vms (λ vm. vm.current)
 
-pub target-count : (s : List ℕ) → length (target_of (room_of s)) ≡ vm_count s
-unfolding target_of
-target-count s = length-map (room_of s).vms (λ vm. vm.target) ∙ vms-count s
+  pub target-count : length (target_of room) ≡ length room.vms
+  unfolding target_of
+  target-count = length-map room.vms (λ vm. vm.target)
 
-pub current-at : (room : Room) (v : ℕ) → get_or (current_of room) v 0 ≡ (vm_of room v).current
-unfolding current_of vm_of
-current-at room v = get_or-map (λ vm. vm.current) room.vms v no_vm
+  pub current-at : (v : ℕ) → get_or (current_of room) v 0 ≡ (vm_of room v).current
+  unfolding current_of vm_of
+  current-at v = get_or-map (λ vm. vm.current) room.vms v no_vm
 
-pub target_at : (room : Room) (v : ℕ) → get_or (target_of room) v 0 ≡ (vm_of room v).target
-unfolding target_of vm_of
-target_at room v = get_or-map (λ vm. vm.target) room.vms v no_vm
+  pub target_at : (v : ℕ) → get_or (target_of room) v 0 ≡ (vm_of room v).target
+  unfolding target_of vm_of
+  target_at v = get_or-map (λ vm. vm.target) room.vms v no_vm
 
--- at any reserve
-pub target-there : (reserve : ℕ) (s : List ℕ) (v : ℕ) → get_or (target_of (room_at reserve s)) v 0 ≡ (vm_of (room_of s) v).target
-target-there reserve s v = rw (target-same reserve (room_of s)) (target_at (room_of s) v)
+module _ (room : Room) (places : List ℕ) (v x : ℕ) (w : IsSound room) where
+  pub current-more : x ≡ (vm_of room v).current → Filling places (current_of room) v → v < length room.vms → Filling (set places v x) (current_of room) (v + 1)
+  current-more e f h =
+      let m = w.vms-most in
+      filling-more places (current_of room) v x f (e ∙ sym (current-at room v)) (rw (current-count room) h) (omega arith)
 
-module _ (s places : List ℕ) (v x n : ℕ) where
-  pub current-more : x ≡ (vm_of (room_of s) v).current → n ≡ vm_count s → Filling places (current_of (room_of s)) v → v < n → n ≤ 256 →
-      Filling (set places v x) (current_of (room_of s)) (v + 1)
-  current-more e q f h k =
-      filling-more places (current_of (room_of s)) v x f (e ∙ sym (current-at (room_of s) v)) (rw (current-count s) (omega arith)) (omega arith)
+  pub target_more : x ≡ (vm_of room v).target → Filling places (target_of room) v → v < length room.vms → Filling (set places v x) (target_of room) (v + 1)
+  target_more e f h =
+      let m = w.vms-most in
+      filling-more places (target_of room) v x f (e ∙ sym (target_at room v)) (rw (target-count room) h) (omega arith)
 
-  pub target_more : x ≡ (vm_of (room_of s) v).target → n ≡ vm_count s → Filling places (target_of (room_of s)) v → v < n → n ≤ 256 →
-      Filling (set places v x) (target_of (room_of s)) (v + 1)
-  target_more e q f h k =
-      filling-more places (target_of (room_of s)) v x f (e ∙ sym (target_at (room_of s) v)) (rw (target-count s) (omega arith)) (omega arith)
+module _ (room : Room) (places : List ℕ) (v : ℕ) (q : v ≡ length room.vms) where
+  pub current-end : Filling places (current_of room) v → places ≡ array_of (current_of room)
+  current-end f = filling-end places (current_of room) v f (current-count room ∙ sym q)
 
-module _ (s places : List ℕ) (v n : ℕ) (q : n ≡ vm_count s) where
-  pub current-end : Filling places (current_of (room_of s)) v → v ≤ n → n ≤ v → places ≡ array_of (current_of (room_of s))
-  current-end f h k = filling-end places (current_of (room_of s)) v f (let l = current-count s in omega arith)
+  pub target-end : Filling places (target_of room) v → places ≡ array_of (target_of room)
+  target-end f = filling-end places (target_of room) v f (target-count room ∙ sym q)
 
-  pub target-end : Filling places (target_of (room_of s)) v → v ≤ n → n ≤ v → places ≡ array_of (target_of (room_of s))
-  target-end f h k = filling-end places (target_of (room_of s)) v f (let l = target-count s in omega arith)
+module _ (room : Room) (places : List ℕ) where
+  pub current-holds : places ≡ array_of (current_of room) → IsSound room → Holds room places (current_of room)
+  current-holds q w = array-holds room places (current_of room) q w (current-count room) (λ v h. rw (current-at room v) (w.currents v h))
 
-module _ (s places : List ℕ) where
-  pub current-holds : places ≡ array_of (current_of (room_of s)) → cluster_check s ≡ Whole → Holds s places (current_of (room_of s))
-  current-holds q w = array-holds s places (current_of (room_of s)) q w (current-count s) (λ v h. rw (current-at (room_of s) v) (vm-current-place s v w h))
+  pub target-holds : places ≡ array_of (target_of room) → IsSound room → Holds room places (target_of room)
+  target-holds q w = array-holds room places (target_of room) q w (target-count room) (λ v h. rw (target_at room v) (w.targets v h))
 
-  pub target-holds : places ≡ array_of (target_of (room_of s)) → cluster_check s ≡ Whole → Holds s places (target_of (room_of s))
-  target-holds q w = array-holds s places (target_of (room_of s)) q w (target-count s) (λ v h. rw (target_at (room_of s) v) (vm-target-place s v w h))
-
-  pub target-placed : places ≡ array_of (target_of (room_of s)) → cluster_check s ≡ Whole → Placed s places
+  pub target-placed : places ≡ array_of (target_of room) → IsSound room → Placed room places
   target-placed q w = (target-holds q w).placed
 
--- ---- moving, and destinations: the moves of the step at a place, one by one
+-- ---- destinations: moves put in one by one, no VM twice, come to the same in either order
 
-module _ (plan : List ℕ) (at i : ℕ) (h : i < move_count plan at) where
-  pub step-cons : drop i (step_at plan at) ≡ move_of (step_at plan at) i ∷ drop (suc i) (step_at plan at)
-  unfolding move_of
-  step-cons = drop-cons (step_at plan at) i no_move (rw (step-length plan at) h)
+set-swap : (l : List ℕ) (i j x y : ℕ) → (i ≡ j → ⊥) → set (set l i x) j y ≡ set (set l j y) i x
+set-swap [] i j x y n = refl
+set-swap (a ∷ l) zero zero x y n = absurd (n refl)
+set-swap (a ∷ l) zero (suc j) x y n = refl
+set-swap (a ∷ l) (suc i) zero x y n = refl
+set-swap (a ∷ l) (suc i) (suc j) x y n = ap (λ (k : List ℕ). a ∷ k) (set-swap l i j x y (λ e. n (ap suc e)))
 
-pub moved_more : (plan next result : List ℕ) (at i n v d : ℕ) → v ≡ (move_of (step_at plan at) i).vm → d ≡ (move_of (step_at plan at) i).to →
-    n ≡ move_count plan at → after next (drop i (step_at plan at)) ≡ result → i < n → after (set next v d) (drop (i + 1) (step_at plan at)) ≡ result
-unfolding after
-moved_more plan next result at i n v d e f q inv h =
-    let k : i < move_count plan at = omega arith in
-    rw (add-one, e, f) (simp (step-cons plan at i k) at inv)
+module _ (room : Room) (places : Placement) where
+  after-set : (least : ℕ) (step : Step) (base : List ℕ) (v d : ℕ) → named room places least step ≡ true → v < least → after (set base v d) step ≡ set (after base step) v d
+  unfolding after
+  after-set least [] base v d e h = refl
+  after-set least (move ∷ moves) base v d e h =
+      let l = named-least room places least move moves e in
+      let n : v ≡ move.vm → ⊥ = λ q. omega arith in
+      rw (set-swap base v move.vm d move.to n) (after-set (suc move.vm) moves (set base move.vm move.to) v d (named-rest room places least move moves e) (omega arith))
 
-pub moved-end : (plan next result : List ℕ) (at i n : ℕ) → n ≡ move_count plan at → after next (drop i (step_at plan at)) ≡ result → n ≤ i → next ≡ result
-unfolding after
-moved-end plan next result at i n q inv h =
-    let k : length (step_at plan at) ≤ i = rw (step-length plan at) (omega arith) in
-    rw (drop_of_length-le (step_at plan at) k) at inv
-
-pub dests-start : (plan : List ℕ) (at n : ℕ) → n ≡ move_count plan at → replicate 256 64 ≡ dests_from (drop n (step_at plan at))
-unfolding dests_from
-dests-start plan at n q =
-    let k : length (step_at plan at) ≤ n = rw (step-length plan at) (omega arith) in
-    rw (drop_of_length-le (step_at plan at) k)
-
-pub dests-more : (plan dests : List ℕ) (at i j v d : ℕ) → v ≡ (move_of (step_at plan at) j).vm → d ≡ (move_of (step_at plan at) j).to → j ≡ i - 1 →
-    dests ≡ dests_from (drop i (step_at plan at)) → 0 < i → i ≤ move_count plan at → set dests v d ≡ dests_from (drop j (step_at plan at))
-unfolding dests_from
-dests-more plan dests at i j v d e f q inv h m =
-    let k : j < move_count plan at = omega arith in
-    let l : suc j ≡ i = omega arith in
-    rw (e, f, inv)
-    (sym (ap dests_from (step-cons plan at j k) ∙
-    ap (λ (n : ℕ). set (dests_from (drop n (step_at plan at))) (move_of (step_at plan at) j).vm (move_of (step_at plan at) j).to) l))
-
-pub dests-end : (plan dests : List ℕ) (at i : ℕ) → dests ≡ dests_from (drop i (step_at plan at)) → i ≤ 0 → dests ≡ dests_from (step_at plan at)
-dests-end plan dests at i inv h = let z : i ≡ 0 = omega arith in rw z at inv
+  pub dests-after : (least : ℕ) (step : Step) → named room places least step ≡ true → after (replicate 256 64) step ≡ dests_from step
+  unfolding after dests_from
+  dests-after least [] e = refl
+  dests-after least (move ∷ moves) e =
+      let r = named-rest room places least move moves e in
+      after-set (suc move.vm) moves (replicate 256 64) move.vm move.to r (omega arith) ∙ ap (λ (l : List ℕ). set l move.vm move.to) (dests-after (suc move.vm) moves r)

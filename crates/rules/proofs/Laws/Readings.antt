@@ -5,6 +5,7 @@ use mathlib.Core.List.{[], ◌∷◌, map}
 use mathlib.Core.Path.{◌≡◌, refl}
 use lib.ListN.{length}
 use lib.Dec.{eqb}
+use Rattle.std.specs.Prelude.{Ok, Err}
 use Rattle.records.specs.Base.{pick, all, sum_of}
 use Rattle.records.specs.Room.{Room, Vm, Node, fence, spread, before, has, vms_of, node_of, vm_of, usable, usable_node, at_reserve, nowhere, on_node}
 use Rattle.records.specs.Plan.{Step}
@@ -14,9 +15,7 @@ use Rattle.rules.specs.Orders.{fits, spreads, some, mates, meets_mate}
 use Rattle.rules.specs.Rules.{from, spread_out, on_nodes, keeps, keeps_from, allowed, aims, named, is_place, sourced, permitted, fitting, unmet, has_move, respects, in_turn, step_check, sound_step, fits_all, target_check}
 use Rattle.rules.specs.Cost.{memory_of, step_cost, cost_from, cost_of}
 use Rattle.rules.specs.declared.faults.TargetFault.TheVariants.{Overfull}
-use Rattle.rules.specs.declared.faults.TargetCheck.TheVariants.{Good, Bad}
 use Rattle.rules.specs.declared.faults.StepFault.TheVariants.{Misnamed, Misfit, Early}
-use Rattle.rules.specs.declared.faults.StepCheck.TheVariants.{Clear, Faulty}
 use Rattle.rules.specs.declared.tally.Tally.{Tally}
 use Rattle.rules.proofs.Laws.Orders.{over_at, all_over}
 
@@ -204,64 +203,64 @@ pub record ToldApart : Type 0 where
   pub overfull-sound : sound_step overfull (current_of overfull) one_move ≡ true
   -- a shutdown counts on its node until it has ended: it pays for no launch of its own step, but for one of the next
   pub shutdown-wrong : fitting_ended turnover (current_of turnover) both_at_once ≡ true
-  pub shutdown-right : step_check turnover (current_of turnover) both_at_once ≡ Faulty Misfit
-  pub launch-early : step_check turnover (current_of turnover) launch ≡ Faulty Misfit
-  pub shutdown-sound : step_check turnover (current_of turnover) shutdown ≡ Clear
-  pub launch-later : step_check turnover (after (current_of turnover) shutdown) launch ≡ Clear
+  pub shutdown-right : step_check turnover (current_of turnover) both_at_once ≡ Err Misfit
+  pub launch-early : step_check turnover (current_of turnover) launch ≡ Err Misfit
+  pub shutdown-sound : step_check turnover (current_of turnover) shutdown ≡ Ok tt
+  pub launch-later : step_check turnover (after (current_of turnover) shutdown) launch ≡ Ok tt
   -- neither a fence nor a mate that is down is asked of a shutdown
-  pub fence-free : step_check fenced (current_of fenced) shutdown ≡ Clear
+  pub fence-free : step_check fenced (current_of fenced) shutdown ≡ Ok tt
   -- what is wanted on a node is not shut down
-  pub goes_on : step_check killed (current_of killed) shutdown ≡ Faulty Misnamed
+  pub goes_on : step_check killed (current_of killed) shutdown ≡ Err Misnamed
   -- a shutdown has memory 0, and still pays for the steps before it; a launch has its memory
   pub shutdown-cost : cost_of turnover (shutdown ∷ launch ∷ []) ≡ 2
   pub shutdown-later : cost_of turnover (launch ∷ shutdown ∷ []) ≡ 4
   -- an idle VM enters a node that is over its CPU, an active one does not, nor beside an idle one
   pub idle-wrong : fits_both (busy 9 2) (first_moment (busy 9 2) (current_of (busy 9 2)) idle_comes) 0 1 ≡ false
-  pub idle-right : step_check (busy 9 2) (current_of (busy 9 2)) idle_comes ≡ Clear
+  pub idle-right : step_check (busy 9 2) (current_of (busy 9 2)) idle_comes ≡ Ok tt
   pub active-wrong : fits_memory (busy 9 2) (first_moment (busy 9 2) (current_of (busy 9 2)) active_comes) 1 1 ≡ true
-  pub active-right : step_check (busy 9 2) (current_of (busy 9 2)) active_comes ≡ Faulty Misfit
+  pub active-right : step_check (busy 9 2) (current_of (busy 9 2)) active_comes ≡ Err Misfit
   pub beside-wrong : fitting_beside (busy 9 2) (current_of (busy 9 2)) both_come ≡ true
-  pub beside-right : step_check (busy 9 2) (current_of (busy 9 2)) both_come ≡ Faulty Misfit
+  pub beside-right : step_check (busy 9 2) (current_of (busy 9 2)) both_come ≡ Err Misfit
   -- no idle VM enters a node that is full, and its memory counts for those beside it
-  pub full : step_check (busy 3 2) (current_of (busy 3 2)) idle_comes ≡ Faulty Misfit
-  pub full-beside : step_check (busy 3 2) (after (current_of (busy 3 2)) leaves) both_come ≡ Faulty Misfit
-  pub full-alone : step_check (busy 3 2) (after (current_of (busy 3 2)) leaves) active_comes ≡ Clear
-  pub side_by_side : step_check (busy 4 2) (after (current_of (busy 4 2)) leaves) both_come ≡ Clear
+  pub full : step_check (busy 3 2) (current_of (busy 3 2)) idle_comes ≡ Err Misfit
+  pub full-beside : step_check (busy 3 2) (after (current_of (busy 3 2)) leaves) both_come ≡ Err Misfit
+  pub full-alone : step_check (busy 3 2) (after (current_of (busy 3 2)) leaves) active_comes ≡ Ok tt
+  pub side_by_side : step_check (busy 4 2) (after (current_of (busy 4 2)) leaves) both_come ≡ Ok tt
   -- the target fits both sums: with VM 2 to stay, node 1 is over its CPU
-  pub target : target_check (busy 9 1) ≡ Bad Overfull
+  pub target : target_check (busy 9 1) ≡ Err Overfull
   -- usable amounts are rounded down, memory and CPU each by itself
   pub usable-wrong : usable_up 10 4 ≡ 4
   pub usable-right : usable_node 10 (record { memory = 4; cpu = 101 }) ≡ record { memory = 3; cpu = 90 }
   pub usable-all : usable_node 0 (record { memory = 4; cpu = 101 }) ≡ record { memory = 4; cpu = 101 }
   pub usable-least : usable_node 90 (record { memory = 9; cpu = 10 }) ≡ record { memory = 0; cpu = 1 }
   -- a reserve is kept of the CPU too
-  pub kept-wrong : step_check (at_memory 10 hot) (current_of hot) one_move ≡ Clear
-  pub kept-right : step_check (at_reserve 10 hot) (current_of hot) one_move ≡ Faulty Misfit
-  pub kept_less : step_check (at_reserve 9 hot) (current_of hot) one_move ≡ Clear
+  pub kept-wrong : step_check (at_memory 10 hot) (current_of hot) one_move ≡ Ok tt
+  pub kept-right : step_check (at_reserve 10 hot) (current_of hot) one_move ≡ Err Misfit
+  pub kept_less : step_check (at_reserve 9 hot) (current_of hot) one_move ≡ Ok tt
   -- node 0 is within its capacity, and at reserve 10 over what is usable of it: it takes nobody, may be left, and then takes VM 1
-  pub lean-none : step_check (at_reserve 0 lean) (current_of lean) comes ≡ Clear
-  pub lean-enters : step_check (at_reserve 10 lean) (current_of lean) comes ≡ Faulty Misfit
-  pub lean-leaves : step_check (at_reserve 10 lean) (current_of lean) one_move ≡ Clear
-  pub lean-later : step_check (at_reserve 10 lean) (after (current_of lean) one_move) comes ≡ Clear
+  pub lean-none : step_check (at_reserve 0 lean) (current_of lean) comes ≡ Ok tt
+  pub lean-enters : step_check (at_reserve 10 lean) (current_of lean) comes ≡ Err Misfit
+  pub lean-leaves : step_check (at_reserve 10 lean) (current_of lean) one_move ≡ Ok tt
+  pub lean-later : step_check (at_reserve 10 lean) (after (current_of lean) one_move) comes ≡ Ok tt
   -- a target that fits at one reserve need not at a larger one
-  pub target_fits : target_check (at_reserve 25 (swap 4)) ≡ Good
-  pub target-over : target_check (at_reserve 26 (swap 4)) ≡ Bad Overfull
+  pub target_fits : target_check (at_reserve 25 (swap 4)) ≡ Ok tt
+  pub target-over : target_check (at_reserve 26 (swap 4)) ≡ Err Overfull
   -- the second waits for the step behind the one that brings the first home; the target is not bound
   pub end-wrong : turn_at_end (queue 0 2 0) (current_of (queue 0 2 0)) (both_go 2) 0 1 ≡ true
-  pub end-right : step_check (queue 0 2 0) (current_of (queue 0 2 0)) (both_go 2) ≡ Faulty Early
-  pub end_later : step_check (queue 0 2 0) (2 ∷ 0 ∷ []) (second_goes 1) ≡ Clear
-  pub end-target : target_check (queue 0 2 0) ≡ Good
+  pub end-right : step_check (queue 0 2 0) (current_of (queue 0 2 0)) (both_go 2) ≡ Err Early
+  pub end_later : step_check (queue 0 2 0) (2 ∷ 0 ∷ []) (second_goes 1) ≡ Ok tt
+  pub end-target : target_check (queue 0 2 0) ≡ Ok tt
   -- it does not go in the step that takes the first away
   pub beside-first-wrong : turn_beside (queue 2 2 0) (current_of (queue 2 2 0)) (both_go 0) 0 1 ≡ true
-  pub beside-first-right : step_check (queue 2 2 0) (current_of (queue 2 2 0)) (both_go 0) ≡ Faulty Early
+  pub beside-first-right : step_check (queue 2 2 0) (current_of (queue 2 2 0)) (both_go 0) ≡ Err Early
   -- nor aside, nor from no node
   pub aside-wrong : turn_homeward (queue 0 2 0) (current_of (queue 0 2 0)) (second_goes 2) 0 1 ≡ true
-  pub aside-right : step_check (queue 0 2 0) (current_of (queue 0 2 0)) (second_goes 2) ≡ Faulty Early
+  pub aside-right : step_check (queue 0 2 0) (current_of (queue 0 2 0)) (second_goes 2) ≡ Err Early
   pub launch-wrong : turn_running (queue 0 2 nowhere) (current_of (queue 0 2 nowhere)) (second_goes 1) 0 1 ≡ true
-  pub launch-right : step_check (queue 0 2 nowhere) (current_of (queue 0 2 nowhere)) (second_goes 1) ≡ Faulty Early
+  pub launch-right : step_check (queue 0 2 nowhere) (current_of (queue 0 2 nowhere)) (second_goes 1) ≡ Err Early
   -- a first that is down is on its target if it is wanted so, and only then
-  pub down-home : step_check (queue nowhere nowhere 0) (current_of (queue nowhere nowhere 0)) (second_goes 1) ≡ Clear
-  pub down-away : step_check (queue nowhere 2 0) (current_of (queue nowhere 2 0)) (second_goes 1) ≡ Faulty Early
+  pub down-home : step_check (queue nowhere nowhere 0) (current_of (queue nowhere nowhere 0)) (second_goes 1) ≡ Ok tt
+  pub down-away : step_check (queue nowhere 2 0) (current_of (queue nowhere 2 0)) (second_goes 1) ≡ Err Early
 
 pub told-apart : ToldApart
 unfolding all has vms_of node_of vm_of on_node current_of target_of within bears counts_on tally_at phase_of cells_from first_moment begun all_running fits spreads some mates meets_mate from keeps_from allowed aims named permitted fitting unmet sound_step step_check after is_place sourced memory_of step_cost cost_from cost_of sum_of over_at all_over swap both_moves one_runs overfull one_move turnover both_at_once shutdown launch killed fenced counts_freed tally_freed fits_freed fitting_ended unmet_ended fits_everywhere bears_at fits_all target_check busy idle_comes active_comes both_come leaves fits_both fits_memory fitting_beside usable usable_node at_reserve lean comes hot usable_up at_memory spread_out on_nodes keeps has_move respects in_turn queue second_goes both_go turn_at_end turn_beside turn_homeward turn_running

@@ -21,9 +21,6 @@ module _ (reserve : ℕ) (room : Room) where
   unfolding vm_of at_reserve
   vm-same v = refl
 
-  pub cpu-same : (v cpu : ℕ) → cpu ≡ (vm_of room v).cpu → cpu ≡ (vm_of (at_reserve reserve room) v).cpu
-  cpu-same v cpu e = rw (vm-same v) e
-
   pub need-same : (v : ℕ) (need : Need) → NeedOf room v need → NeedOf (at_reserve reserve room) v need
   unfolding vm_of at_reserve
   need-same v need n = record { memory = n.memory; cpu = n.cpu; memory-most = n.memory-most; cpu-most = n.cpu-most }

@@ -14,7 +14,7 @@ use Rattle.records.specs.Base.{pick}
 use Rattle.records.specs.Bytes.{version_of}
 use Rattle.records.specs.Room.{Room, nowhere, on_node, at_reserve, room_of, room_at, cluster_check}
 use Rattle.records.specs.Plan.{Step, move_of}
-use Rattle.records.specs.declared.faults.ClusterCheck.TheVariants.{Whole}
+use Rattle.std.specs.Prelude.{Ok}
 use Rattle.records.proofs.Laws.Bools.{and_left, and_right}
 use Rattle.records.proofs.Laws.Cluster.{nodes-most, nodes-count, vms-count, vm-current-node, vm-target-node}
 use Rattle.rules.specs.Moments.{Placement, place_of, current_of, target_of, after, bears_at, Phase, staying, waiting, running, ended, cell, Moment, number_of, counts_on, phase_of, cells_from, first_moment, at_rest, places_left}
@@ -161,7 +161,7 @@ keeps-running room places steps few n l = record {
 
 -- ---- clusters of version 1
 
-module _ (s : List ℕ) (w : cluster_check s ≡ Whole) (one : version_of s ≡ 1) where
+module _ (s : List ℕ) (w : cluster_check s ≡ Ok tt) (one : version_of s ≡ 1) where
   current-node : (v : ℕ) → v < length (room_of s).vms → place_of (current_of (room_of s)) v < length (room_of s).nodes
   current-node v h = rw (current-at (room_of s) v, nodes-count s) (vm-current-node s v w (rw (vms-count s) at h) one)
 
@@ -184,7 +184,7 @@ module _ (s : List ℕ) (w : cluster_check s ≡ Whole) (one : version_of s ≡ 
       no-shutdown places (suc move.vm) moves i (named-rest (room_of s) places least move moves n) (omega arith) e
 
 -- at any reserve
-pub nothing-down : (reserve : ℕ) (s : List ℕ) → cluster_check s ≡ Whole → version_of s ≡ 1 → NothingDown (room_at reserve s)
+pub nothing-down : (reserve : ℕ) (s : List ℕ) → cluster_check s ≡ Ok tt → version_of s ≡ 1 → NothingDown (room_at reserve s)
 unfolding at_reserve
 nothing-down reserve s w one = record {
   currents = λ v h. rw (current-same reserve (room_of s), nodes-kept reserve (room_of s)) (current-node s w one v h);

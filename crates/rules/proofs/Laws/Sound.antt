@@ -7,6 +7,7 @@ use mathlib.Core.Path.{◌≡◌, refl, sym, ap, ◌∙◌}
 use native.Mathlib.Omega.{arith}
 use lib.Dec.{eqb}
 use borrow.Author.Tests.{eqb-true, ne_eqb}
+use Rattle.std.specs.Prelude.{Result, Ok, Err}
 use Rattle.records.specs.Base.{pick, all}
 use Rattle.records.specs.Room.{Room, vm_of}
 use Rattle.records.specs.Plan.{Move, Step}
@@ -14,16 +15,15 @@ use Rattle.records.proofs.Laws.Bools.{and_left, and_right, and_both, all_more}
 use Rattle.rules.specs.Moments.{Placement, staying, waiting, cell, counts_on, bears_at, tally_at, phase_of, first_moment, begun, all_running}
 use Rattle.rules.specs.Orders.{meets_mate}
 use Rattle.rules.specs.Rules.{named, sourced, permitted, fitting, unmet, in_turn, step_check, sound_step}
+use Rattle.rules.specs.declared.faults.StepFault.{StepFault}
 use Rattle.rules.specs.declared.faults.StepFault.TheVariants.{Misnamed, Elsewhere, Forbidden, Misfit, Mate, Early}
-use Rattle.rules.specs.declared.faults.StepCheck.{StepCheck}
-use Rattle.rules.specs.declared.faults.StepCheck.TheVariants.{Clear, Faulty}
 use Rattle.rules.proofs.Laws.Orders.{never, Under, meets_under, bears-under, named-least, named-vm, named-sends, named-off, named-rest, named-cons}
 
 -- the first fault from the tests
-abbrev found : Bool → Bool → Bool → Bool → Bool → Bool → StepCheck
+abbrev found : Bool → Bool → Bool → Bool → Bool → Bool → Result (Unit {0}) StepFault
 found n s p f u t =
-    pick (not n) (Faulty Misnamed)
-    (pick (not s) (Faulty Elsewhere) (pick (not p) (Faulty Forbidden) (pick (not f) (Faulty Misfit) (pick (not u) (Faulty Mate) (pick (not t) (Faulty Early) Clear)))))
+    pick (not n) (Err Misnamed)
+    (pick (not s) (Err Elsewhere) (pick (not p) (Err Forbidden) (pick (not f) (Err Misfit) (pick (not u) (Err Mate) (pick (not t) (Err Early) (Ok tt))))))
 
 -- the tests that a fault tells
 pub record TestsElsewhere (n s : Bool) : Type 0 where
@@ -56,7 +56,7 @@ pub record TestsEarly (n s p f u t : Bool) : Type 0 where
   pub apart : u ≡ true
   pub early : t ≡ false
 
-none_found : (n s p f u t : Bool) → found n s p f u t ≡ Clear → ((n && (p && (f && (u && t)))) ≡ true) × (s ≡ true)
+none_found : (n s p f u t : Bool) → found n s p f u t ≡ Ok tt → ((n && (p && (f && (u && t)))) ≡ true) × (s ≡ true)
 none_found false s p f u t e = never (cc)
 none_found true false p f u t e = never (cc)
 none_found true true false f u t e = never (cc)
@@ -65,7 +65,7 @@ none_found true true true true false t e = never (cc)
 none_found true true true true true false e = never (cc)
 none_found true true true true true true e = (refl, refl)
 
-misnamed-found : (n s p f u t : Bool) → found n s p f u t ≡ Faulty Misnamed → n ≡ false
+misnamed-found : (n s p f u t : Bool) → found n s p f u t ≡ Err Misnamed → n ≡ false
 misnamed-found false s p f u t e = refl
 misnamed-found true false p f u t e = never (cc)
 misnamed-found true true false f u t e = never (cc)
@@ -74,7 +74,7 @@ misnamed-found true true true true false t e = never (cc)
 misnamed-found true true true true true false e = never (cc)
 misnamed-found true true true true true true e = never (cc)
 
-elsewhere-found : (n s p f u t : Bool) → found n s p f u t ≡ Faulty Elsewhere → TestsElsewhere n s
+elsewhere-found : (n s p f u t : Bool) → found n s p f u t ≡ Err Elsewhere → TestsElsewhere n s
 elsewhere-found false s p f u t e = never (cc)
 elsewhere-found true false p f u t e = record { well-named = refl; elsewhere = refl }
 elsewhere-found true true false f u t e = never (cc)
@@ -83,7 +83,7 @@ elsewhere-found true true true true false t e = never (cc)
 elsewhere-found true true true true true false e = never (cc)
 elsewhere-found true true true true true true e = never (cc)
 
-forbidden-found : (n s p f u t : Bool) → found n s p f u t ≡ Faulty Forbidden → TestsForbidden n s p
+forbidden-found : (n s p f u t : Bool) → found n s p f u t ≡ Err Forbidden → TestsForbidden n s p
 forbidden-found false s p f u t e = never (cc)
 forbidden-found true false p f u t e = never (cc)
 forbidden-found true true false f u t e = record { well-named = refl; well-sourced = refl; forbidden = refl }
@@ -92,7 +92,7 @@ forbidden-found true true true true false t e = never (cc)
 forbidden-found true true true true true false e = never (cc)
 forbidden-found true true true true true true e = never (cc)
 
-misfit-found : (n s p f u t : Bool) → found n s p f u t ≡ Faulty Misfit → TestsMisfit n s p f
+misfit-found : (n s p f u t : Bool) → found n s p f u t ≡ Err Misfit → TestsMisfit n s p f
 misfit-found false s p f u t e = never (cc)
 misfit-found true false p f u t e = never (cc)
 misfit-found true true false f u t e = never (cc)
@@ -101,7 +101,7 @@ misfit-found true true true true false t e = never (cc)
 misfit-found true true true true true false e = never (cc)
 misfit-found true true true true true true e = never (cc)
 
-mate-found : (n s p f u t : Bool) → found n s p f u t ≡ Faulty Mate → TestsMate n s p f u
+mate-found : (n s p f u t : Bool) → found n s p f u t ≡ Err Mate → TestsMate n s p f u
 mate-found false s p f u t e = never (cc)
 mate-found true false p f u t e = never (cc)
 mate-found true true false f u t e = never (cc)
@@ -110,7 +110,7 @@ mate-found true true true true false t e = record { well-named = refl; well-sour
 mate-found true true true true true false e = never (cc)
 mate-found true true true true true true e = never (cc)
 
-early-found : (n s p f u t : Bool) → found n s p f u t ≡ Faulty Early → TestsEarly n s p f u t
+early-found : (n s p f u t : Bool) → found n s p f u t ≡ Err Early → TestsEarly n s p f u t
 early-found false s p f u t e = never (cc)
 early-found true false p f u t e = never (cc)
 early-found true true false f u t e = never (cc)
@@ -151,35 +151,35 @@ module _ (room : Room) (places : Placement) (step : Step) where
   sound-tests n p f u t = and_both n (and_both p (and_both f (and_both u t)))
 
   -- the first fault, by the tests
-  pub none-check : (step_check room places step ≡ Clear) ↔ ((sound_step room places step ≡ true) × (sourced places step ≡ true))
+  pub none-check : (step_check room places step ≡ Ok tt) ↔ ((sound_step room places step ≡ true) × (sourced places step ≡ true))
   unfolding step_check sound_step
   none-check = (
     none_found (named room places 0 step) (sourced places step) (permitted room step) (fitting room places step) (unmet room places step) (in_turn room places step),
     λ t. simp (sound-named t.0, t.1, sound-permitted t.0, sound-fitting t.0, sound-unmet t.0, sound-turn t.0),
   )
 
-  pub misnamed-check : (step_check room places step ≡ Faulty Misnamed) ↔ (named room places 0 step ≡ false)
+  pub misnamed-check : (step_check room places step ≡ Err Misnamed) ↔ (named room places 0 step ≡ false)
   unfolding step_check
   misnamed-check = (
     misnamed-found (named room places 0 step) (sourced places step) (permitted room step) (fitting room places step) (unmet room places step) (in_turn room places step),
     λ t. simp t,
   )
 
-  pub elsewhere-check : (step_check room places step ≡ Faulty Elsewhere) ↔ TestsElsewhere (named room places 0 step) (sourced places step)
+  pub elsewhere-check : (step_check room places step ≡ Err Elsewhere) ↔ TestsElsewhere (named room places 0 step) (sourced places step)
   unfolding step_check
   elsewhere-check = (
     elsewhere-found (named room places 0 step) (sourced places step) (permitted room step) (fitting room places step) (unmet room places step) (in_turn room places step),
     λ t. simp (t.well-named, t.elsewhere),
   )
 
-  pub forbidden-check : (step_check room places step ≡ Faulty Forbidden) ↔ TestsForbidden (named room places 0 step) (sourced places step) (permitted room step)
+  pub forbidden-check : (step_check room places step ≡ Err Forbidden) ↔ TestsForbidden (named room places 0 step) (sourced places step) (permitted room step)
   unfolding step_check
   forbidden-check = (
     forbidden-found (named room places 0 step) (sourced places step) (permitted room step) (fitting room places step) (unmet room places step) (in_turn room places step),
     λ t. simp (t.well-named, t.well-sourced, t.forbidden),
   )
 
-  pub misfit-check : (step_check room places step ≡ Faulty Misfit) ↔
+  pub misfit-check : (step_check room places step ≡ Err Misfit) ↔
       TestsMisfit (named room places 0 step) (sourced places step) (permitted room step) (fitting room places step)
   unfolding step_check
   misfit-check = (
@@ -187,7 +187,7 @@ module _ (room : Room) (places : Placement) (step : Step) where
     λ t. simp (t.well-named, t.well-sourced, t.permitted, t.misfit),
   )
 
-  pub mate-check : (step_check room places step ≡ Faulty Mate) ↔
+  pub mate-check : (step_check room places step ≡ Err Mate) ↔
       TestsMate (named room places 0 step) (sourced places step) (permitted room step) (fitting room places step) (unmet room places step)
   unfolding step_check
   mate-check = (
@@ -195,7 +195,7 @@ module _ (room : Room) (places : Placement) (step : Step) where
     λ t. simp (t.well-named, t.well-sourced, t.permitted, t.fit, t.mate),
   )
 
-  pub early-check : (step_check room places step ≡ Faulty Early) ↔
+  pub early-check : (step_check room places step ≡ Err Early) ↔
       TestsEarly (named room places 0 step) (sourced places step) (permitted room step) (fitting room places step) (unmet room places step) (in_turn room places step)
   unfolding step_check
   early-check = (

@@ -1,62 +1,29 @@
 -- Laws on the sources that moves name: the pass for 27 and what it means; the sources of an accepted plan; that nothing else looks at them.
-use Prim.Native.Nat.{ℕ, zero, suc, ◌+◌, ◌≤◌, ◌<◌, max}
+use Prim.Native.Nat.{ℕ, zero, suc, ◌+◌, ◌<◌, max}
 use mathlib.Core.Bool.{Bool, true, false, not, ◌&&◌, ◌||◌, false≢true}
 use mathlib.Core.List.{List, [], ◌∷◌, map}
 use mathlib.Core.Path.{◌≡◌, refl, sym, ap, ap₂, ◌∙◌}
-use native.Mathlib.Numerals.{add-one}
 use native.Mathlib.Omega.{arith}
-use lib.ListN.{length, get_or, take, drop, drop_of_length-le}
+use lib.ListN.{length, get_or, take}
 use lib.Seq.{get_or-take}
 use lib.Dec.{eqb}
 use borrow.Author.Tests.{eqb-true, eqb-false}
 use Rattle.records.specs.Base.{pick, all, sum_of}
-use Rattle.records.specs.Room.{Constraint, ban, fence, spread, latency, before, Room, vm_of, vm_count}
-use Rattle.records.specs.Plan.{Move, Step, with_sources, no_move, move_of, move_count, step_at}
+use Rattle.records.specs.Room.{Constraint, ban, fence, spread, latency, before, Room, vm_of}
+use Rattle.records.specs.Plan.{Move, Step, with_sources, no_move, move_of}
 use Rattle.records.specs.Inner.{tells_source, tells_sources}
 use Rattle.records.specs.declared.plan.Source.{Source}
 use Rattle.records.specs.declared.plan.Source.TheVariants.{Unnamed, Named}
 use Rattle.records.proofs.Laws.Bools.{and_left, and_right, and_both, all-at, all_same as all_Alike, all_more}
-use Rattle.records.proofs.Laws.Steps.{step-length}
 use Rattle.rules.specs.Moments.{Placement, places_left, place_of, after, bears_at, waiting, tally_at, phase_of, cells_from, first_moment, all_running}
 use Rattle.rules.specs.Orders.{Order, Run, stop, step, some, meets_mate}
 use Rattle.rules.specs.Rules.{allowed, named, is_place, sourced, permitted, fitting, unmet, has_move, respects, in_turn, sound_step}
 use Rattle.rules.specs.Cost.{memory_of, step_cost, cost_from, cost_of}
 use Rattle.rules.specs.Promises.{after_all, sourced_all, sound_all, NamesElsewhere, NamesPlaces, SourcesUnread}
 use Rattle.rules.specs.Inner.{held, Aimed}
-use Rattle.rules.proofs.Laws.Places.{step-cons}
 use Rattle.rules.proofs.Laws.Runs.{sound-all-named, run_ends}
 
--- ---- one source
-
-module _ (x : Source) (place : ℕ) where
-  pub place-unnamed : x ≡ Unnamed → true ≡ is_place x place
-  unfolding is_place
-  place-unnamed e = rw e
-
-  pub place-named : (node : ℕ) → x ≡ Named node → eqb node place ≡ is_place x place
-  unfolding is_place
-  place-named node e = rw e
-
--- ---- the pass over the moves of a step
-
-module _ (plan places : List ℕ) (at i n v : ℕ) (source : Source) (ok result : Bool) (e : v ≡ (move_of (step_at plan at) i).vm)
-    (f : source ≡ (move_of (step_at plan at) i).source) (q : n ≡ move_count plan at) (g : ok ≡ is_place source (get_or places v 0))
-    (inv : sourced places (drop i (step_at plan at)) ≡ result) (h : i < n) where
-  opened : (ok && sourced places (drop (suc i) (step_at plan at))) ≡ result
-  unfolding sourced all
-  opened = let k : i < move_count plan at = omega arith in rw (g, e, f) (simp (step-cons plan at i k) at inv)
-
-  pub sourced-not : ok ≡ false → false ≡ result
-  sourced-not o = simp o at opened
-
-  pub sourced-more : ok ≡ true → sourced places (drop (i + 1) (step_at plan at)) ≡ result
-  sourced-more o = rw add-one (simp o at opened)
-
-pub sourced-end : (plan places : List ℕ) (at i n : ℕ) (result : Bool) → n ≡ move_count plan at → sourced places (drop i (step_at plan at)) ≡ result → n ≤ i → true ≡ result
-unfolding sourced all
-sourced-end plan places at i n result q inv h =
-    let k : length (step_at plan at) ≤ i = rw (step-length plan at) (omega arith) in
-    rw (drop_of_length-le (step_at plan at) k) at inv
+-- ---- the places of an array
 
 all_same : {A : Type 0} (p q : A → Bool) (xs : List A) (d : A) → ((i : ℕ) → i < length xs → p (get_or xs i d) ≡ q (get_or xs i d)) → all p xs ≡ all q xs
 unfolding all
@@ -64,11 +31,11 @@ all_same p q [] d e = refl
 all_same p q (x ∷ xs) d e = ap₂ (λ (a b : Bool). a && b) (e 0 (omega arith)) (all_same p q xs d (λ i h. e (suc i) (omega arith)))
 
 -- the array has the places of the placement that it holds
-pub sourced-held : (s places : List ℕ) (moves : Step) → Aimed s moves → sourced (held s places) moves ≡ sourced places moves
+pub sourced-held : (room : Room) (places : List ℕ) (moves : Step) → Aimed room moves → sourced (held room places) moves ≡ sourced places moves
 unfolding sourced held move_of
-sourced-held s places moves a =
-    all_same (λ move. is_place move.source (place_of (take (vm_count s) places) move.vm)) (λ move. is_place move.source (place_of places move.vm)) moves no_move
-    (λ i h. ap (is_place (get_or moves i no_move).source) (get_or-take (vm_count s) places (get_or moves i no_move).vm 0 (a.vms i h)))
+sourced-held room places moves a =
+    all_same (λ move. is_place move.source (place_of (take (length room.vms) places) move.vm)) (λ move. is_place move.source (place_of places move.vm)) moves no_move
+    (λ i h. ap (is_place (get_or moves i no_move).source) (get_or-take (length room.vms) places (get_or moves i no_move).vm 0 (a.vms i h)))
 
 -- ---- what 27 means
 

@@ -7,11 +7,11 @@ use mathlib.Core.Path.{◌≡◌, refl, sym, ap, ◌∙◌}
 use native.Mathlib.Omega.{arith}
 use lib.ListN.{length}
 use borrow.Author.Tests.{leb-true, le-leb}
+use Rattle.std.specs.Prelude.{Result, Ok, Err}
 use Rattle.records.specs.Base.{pick, all}
 use Rattle.records.specs.Room.{Vm, Room, node_of, vm_of, usable_node, at_reserve, room_of, room_at, cluster_check}
 use Rattle.records.specs.Plan.{Step, steps_of}
 use Rattle.records.proofs.Laws.Bools.{and_left, and_right, and_both, all_more}
-use Rattle.records.specs.declared.faults.ClusterCheck.{ClusterCheck}
 use Rattle.records.proofs.Laws.Cluster.{nodes-most, nodes-count}
 use Rattle.records.proofs.Laws.Reserve.{node-usable, usable-less, nodes-kept, record-room}
 use Rattle.rules.specs.Moments.{Placement, current_of, target_of, after, within, within_memory, bears_at, tally_at, first_moment, at_rest, all_running}
@@ -21,7 +21,6 @@ use Rattle.rules.specs.Verdict.{plan_verdict, verdict_of, packed}
 use Rattle.rules.specs.Returned.{told_cost, SaysGood}
 use Rattle.rules.specs.Promises.{sound_all, Shaped, StaysWithin, Checked}
 use Rattle.rules.specs.declared.faults.TargetFault.{TargetFault}
-use Rattle.rules.specs.declared.faults.TargetCheck.{TargetCheck}
 use Rattle.rules.specs.declared.faults.Verdict.{Verdict}
 use Rattle.rules.specs.declared.tally.Tally.{Tally}
 use Rattle.rules.proofs.Laws.Bears.{bears-by, bears-memory, bears-cpu, at_more}
@@ -33,7 +32,8 @@ use Rattle.rules.proofs.Laws.Sound.{sound-named, sound-permitted, sound-fitting,
 use Rattle.rules.proofs.Laws.Verdicts.{shaped-verdict, steps-good, current-length, accepted-steps, only-holds}
 
 -- a target without a fault fits, and keeps the constraints
-pub good-target : (fit kept : Bool) → pick (not fit) (TargetCheck.Bad TargetFault.Overfull) (pick (not kept) (TargetCheck.Bad TargetFault.Broken) TargetCheck.Good) ≡ TargetCheck.Good →
+pub good-target : (fit kept : Bool) →
+    pick {A = Result (Unit {0}) TargetFault} (not fit) (Err TargetFault.Overfull) (pick (not kept) (Err TargetFault.Broken) (Ok tt)) ≡ Ok tt →
     (fit ≡ true) × (kept ≡ true)
 good-target true true e = (refl, refl)
 good-target true false e = never cc
@@ -105,7 +105,7 @@ module _ (less more : ℕ) (room : Room) (h : less ≤ more) where
       (λ d x. rw (tally-same less room d (at_rest room places)) (within-still d _ (rw (tally-same more room d (at_rest room places)) at x)))
       (from 0 (length room.nodes)) (rw (nodes-kept more room, moment-same more room places []) at e))
 
-  pub target-still : target_check (at_reserve more room) ≡ TargetCheck.Good → target_check (at_reserve less room) ≡ TargetCheck.Good
+  pub target-still : target_check (at_reserve more room) ≡ Ok tt → target_check (at_reserve less room) ≡ Ok tt
   unfolding target_check target_of at_reserve
   target-still e =
       let t = good-target (fits_all (at_reserve more room) (target_of room)) (all (keeps (target_of room)) room.constraints) e in
@@ -115,7 +115,7 @@ module _ (less more : ℕ) (room : Room) (h : less ≤ more) where
 
 -- of steps that are sound at a reserve, those of an accepted plan and those that are built, blocked or not: a node within its capacity, if it is
 -- over what is usable of it too, does not leave it
-pub within-capacity : (reserve : ℕ) (cluster : List ℕ) (steps : List Step) → cluster_check cluster ≡ ClusterCheck.Whole →
+pub within-capacity : (reserve : ℕ) (cluster : List ℕ) (steps : List Step) → cluster_check cluster ≡ Ok tt →
     sound_all (room_at reserve cluster) (current_of (room_at reserve cluster)) steps ≡ true → StaysWithin (room_of cluster) (current_of (room_of cluster)) steps
 within-capacity reserve cluster steps w e =
     let room = room_of cluster in

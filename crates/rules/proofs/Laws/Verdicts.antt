@@ -9,22 +9,19 @@ use native.Mathlib.Omega.{arith}
 use lib.ListN.{length, get_or, take, length-map}
 use lib.Dec.{ltb, eqb}
 use borrow.Author.Tests.{lt-ltb, le-ltb, ltb-true, ltb-false, eqb-true, eqb-false}
+use Rattle.std.specs.Prelude.{Result, Ok, Err}
 use Rattle.records.specs.Base.{pick, all}
 use Rattle.records.specs.Room.{Room, most_reserve, room_at, cluster_check}
 use Rattle.records.specs.Plan.{Step, step_count, steps_of, plan_check, header_bytes}
-use Rattle.records.specs.declared.faults.ClusterCheck.{ClusterCheck}
-use Rattle.records.specs.declared.faults.PlanCheck.{PlanCheck}
 use Rattle.records.proofs.Laws.Bools.{and_left, and_right, and_both}
 use Rattle.records.proofs.Laws.Steps.{plan-empty, empty-steps, steps-length, steps-most}
 use Rattle.records.proofs.Laws.RoundTrip.{header-whole, header-steps}
 use Rattle.rules.specs.Moments.{Placement, place_of, current_of, target_of, after}
 use Rattle.rules.specs.Rules.{from, target_check, sourced, fitting, unmet, step_check, sound_step}
 use Rattle.rules.specs.Cost.{cost_from, cost_of}
-use Rattle.rules.specs.Verdict.{home, on_reserve, on_cluster, on_target, on_plan, on_step, steps_verdict, plan_verdict, verdict_of, fault_step}
+use Rattle.rules.specs.Verdict.{home, on_reserve, on_check, steps_verdict, plan_verdict, verdict_of, fault_step}
 use Rattle.rules.specs.Promises.{after_all, named_all, sourced_all, sound_all, Shaped, EveryRun, FaultNames, FaultSource, FaultDestination, FaultFit, FaultMate, FaultTurn, FirstAtFault, EndsAway}
-use Rattle.rules.specs.declared.faults.TargetCheck.{TargetCheck}
 use Rattle.rules.specs.declared.faults.StepFault.{StepFault}
-use Rattle.rules.specs.declared.faults.StepCheck.{StepCheck}
 use Rattle.rules.specs.declared.faults.Fault.{Fault}
 use Rattle.rules.specs.declared.faults.Verdict.{Verdict}
 use Rattle.rules.proofs.Laws.Orders.{never}
@@ -37,7 +34,7 @@ use Rattle.rules.proofs.Laws.Runs.{sound-all-named, misfit-exact, mate-exact, ru
 
 -- a first step that is sound and names no wrong source passes
 clear-check : (room : Room) (places : Placement) (step : Step) (steps : List Step) → sound_all room places (step ∷ steps) ≡ true →
-    sourced_all places (step ∷ steps) ≡ true → step_check room places step ≡ StepCheck.Clear
+    sourced_all places (step ∷ steps) ≡ true → step_check room places step ≡ Ok tt
 unfolding sound_all sourced_all
 clear-check room places step steps e x =
     (none-check room places step).1 (and_left (sound_step room places step) (sound_all room (after places step) steps) e, and_left (sourced places step) _ x)
@@ -45,7 +42,7 @@ clear-check room places step steps e x =
 -- sound steps that name no wrong source and reach the target get what is good
 pub steps-good : (room : Room) (good : Verdict) (places : Placement) (number : ℕ) (steps : List Step) → sound_all room places steps ≡ true →
     sourced_all places steps ≡ true → home room (after_all places steps) ≡ true → steps_verdict room good places number steps ≡ good
-unfolding steps_verdict sound_all sourced_all after_all on_step
+unfolding steps_verdict sound_all sourced_all after_all on_check
 steps-good room good places number [] e x h = rw h
 steps-good room good places number (step ∷ steps) e x h =
     rw (clear-check room places step steps e x)
@@ -54,7 +51,7 @@ steps-good room good places number (step ∷ steps) e x h =
 -- and those that do not are refused for that
 pub steps-away : (room : Room) (good : Verdict) (places : Placement) (number : ℕ) (steps : List Step) → sound_all room places steps ≡ true →
     sourced_all places steps ≡ true → home room (after_all places steps) ≡ false → steps_verdict room good places number steps ≡ Verdict.Refused Fault.OffTarget
-unfolding steps_verdict sound_all sourced_all after_all on_step
+unfolding steps_verdict sound_all sourced_all after_all on_check
 steps-away room good places number [] e x h = rw h
 steps-away room good places number (step ∷ steps) e x h =
     rw (clear-check room places step steps e x)
@@ -69,7 +66,7 @@ pub record StepsAccepted (room : Room) (places : Placement) (steps : List Step) 
 
 pub steps-accepted : (room : Room) (cost given : ℕ) (places : Placement) (number : ℕ) (steps : List Step) →
     steps_verdict room (Verdict.Accepted cost) places number steps ≡ Verdict.Accepted given → StepsAccepted room places steps cost given
-unfolding steps_verdict sound_all sourced_all after_all on_step
+unfolding steps_verdict sound_all sourced_all after_all on_check
 steps-accepted room cost given places number [] e = go (home room places) refl e
   where
     go : (b : Bool) → home room places ≡ b → pick b (Verdict.Accepted cost) (Verdict.Refused Fault.OffTarget) ≡ Verdict.Accepted given →
@@ -82,13 +79,13 @@ steps-accepted room cost given places number (step ∷ steps) e =
     rest : Verdict
     rest = steps_verdict room (Verdict.Accepted cost) (after places step) (suc number) steps
 
-    go : (c : StepCheck) → step_check room places step ≡ c → on_step c number rest ≡ Verdict.Accepted given →
+    go : (c : Result (Unit {0}) StepFault) → step_check room places step ≡ c → on_check (λ fault. Fault.Step fault number) c rest ≡ Verdict.Accepted given →
         (rest ≡ Verdict.Accepted given → StepsAccepted room (after places step) steps cost given) → StepsAccepted room places (step ∷ steps) cost given
-    go StepCheck.Clear h e more =
+    go (Ok done) h e more =
         let a = more e in
         let c = (none-check room places step).0 h in
         record { sound = and_both c.0 a.sound; well-sourced = and_both c.1 a.well-sourced; arrived = a.arrived; cost-is = a.cost-is }
-    go (StepCheck.Faulty fault) h e more = never (cc)
+    go (Err fault) h e more = never (cc)
 
 pub record StepsAway (room : Room) (places : Placement) (steps : List Step) : Type 0 where
   pub sound : sound_all room places steps ≡ true
@@ -97,7 +94,7 @@ pub record StepsAway (room : Room) (places : Placement) (steps : List Step) : Ty
 
 pub steps-off : (room : Room) (cost : ℕ) (places : Placement) (number : ℕ) (steps : List Step) →
     steps_verdict room (Verdict.Accepted cost) places number steps ≡ Verdict.Refused Fault.OffTarget → StepsAway room places steps
-unfolding steps_verdict sound_all sourced_all after_all on_step
+unfolding steps_verdict sound_all sourced_all after_all on_check
 steps-off room cost places number [] e = go (home room places) refl e
   where
     go : (b : Bool) → home room places ≡ b → pick b (Verdict.Accepted cost) (Verdict.Refused Fault.OffTarget) ≡ Verdict.Refused Fault.OffTarget → StepsAway room places []
@@ -109,25 +106,25 @@ steps-off room cost places number (step ∷ steps) e =
     rest : Verdict
     rest = steps_verdict room (Verdict.Accepted cost) (after places step) (suc number) steps
 
-    go : (c : StepCheck) → step_check room places step ≡ c → on_step c number rest ≡ Verdict.Refused Fault.OffTarget →
+    go : (c : Result (Unit {0}) StepFault) → step_check room places step ≡ c → on_check (λ fault. Fault.Step fault number) c rest ≡ Verdict.Refused Fault.OffTarget →
         (rest ≡ Verdict.Refused Fault.OffTarget → StepsAway room (after places step) steps) → StepsAway room places (step ∷ steps)
-    go StepCheck.Clear h e more =
+    go (Ok done) h e more =
         let a = more e in
         let c = (none-check room places step).0 h in
         record { sound = and_both c.0 a.sound; well-sourced = and_both c.1 a.well-sourced; missed = a.missed }
-    go (StepCheck.Faulty fault) h e more = never (cc)
+    go (Err fault) h e more = never (cc)
 
 -- a refusal for a step: the steps before it are sound and name no wrong source, and it has that fault first
 pub record StepRefused (room : Room) (places : Placement) (steps : List Step) (fault : StepFault) (n : ℕ) : Type 0 where
   pub there : n < length steps
   pub earlier : sound_all room places (take n steps) ≡ true
   pub earlier-sourced : sourced_all places (take n steps) ≡ true
-  pub check : step_check room (after_all places (take n steps)) (get_or steps n []) ≡ StepCheck.Faulty fault
+  pub check : step_check room (after_all places (take n steps)) (get_or steps n []) ≡ Err fault
 
 pub steps-refused : (room : Room) (cost : ℕ) (fault : StepFault) (places : Placement) (number m : ℕ) (steps : List Step) →
     steps_verdict room (Verdict.Accepted cost) places number steps ≡ Verdict.Refused (Fault.Step fault m) →
     (n : ℕ) × (number + n ≡ m) × StepRefused room places steps fault n
-unfolding steps_verdict sound_all sourced_all after_all on_step
+unfolding steps_verdict sound_all sourced_all after_all on_check
 steps-refused room cost fault places number m [] e = go (home room places) e
   where
     go : (b : Bool) → pick b (Verdict.Accepted cost) (Verdict.Refused Fault.OffTarget) ≡ Verdict.Refused (Fault.Step fault m) →
@@ -140,10 +137,10 @@ steps-refused room cost fault places number m (step ∷ steps) e =
     rest : Verdict
     rest = steps_verdict room (Verdict.Accepted cost) (after places step) (suc number) steps
 
-    go : (c : StepCheck) → step_check room places step ≡ c → on_step c number rest ≡ Verdict.Refused (Fault.Step fault m) →
+    go : (c : Result (Unit {0}) StepFault) → step_check room places step ≡ c → on_check (λ fault. Fault.Step fault number) c rest ≡ Verdict.Refused (Fault.Step fault m) →
         (rest ≡ Verdict.Refused (Fault.Step fault m) → (n : ℕ) × (suc number + n ≡ m) × StepRefused room (after places step) steps fault n) →
         (n : ℕ) × (number + n ≡ m) × StepRefused room places (step ∷ steps) fault n
-    go StepCheck.Clear h e more =
+    go (Ok done) h e more =
         let a = more e in
         let b = a.2.there in
         let k = a.1 in
@@ -152,14 +149,14 @@ steps-refused room cost fault places number m (step ∷ steps) e =
           omega arith,
           record { there = omega arith; earlier = and_both c.0 a.2.earlier; earlier-sourced = and_both c.1 a.2.earlier-sourced; check = a.2.check },
         )
-    go (StepCheck.Faulty found) h e more =
+    go (Err found) h e more =
         let same : number ≡ m = cc in
         let that : found ≡ fault = cc in
-        (0, omega arith, record { there = omega arith; earlier = refl; earlier-sourced = refl; check = h ∙ ap StepCheck.Faulty that })
+        (0, omega arith, record { there = omega arith; earlier = refl; earlier-sourced = refl; check = h ∙ ap Err that })
 
 pub refused-steps : (room : Room) (good : Verdict) (fault : StepFault) (places : Placement) (number n : ℕ) (steps : List Step) →
     StepRefused room places steps fault n → steps_verdict room good places number steps ≡ Verdict.Refused (Fault.Step fault (number + n))
-unfolding steps_verdict sound_all sourced_all after_all on_step
+unfolding steps_verdict sound_all sourced_all after_all on_check
 refused-steps room good fault places number n [] r = let h = r.there in absurd (omega arith)
 refused-steps room good fault places number zero (step ∷ steps) r = let k : number + zero ≡ number = omega arith in rw (k, r.check)
 refused-steps room good fault places number (suc n) (step ∷ steps) r =
@@ -176,22 +173,22 @@ refused-steps room good fault places number (suc n) (step ∷ steps) r =
 -- ---- 15 to 18, 27 and 33 of a step, by what they mean
 
 module _ (room : Room) (places : Placement) (step : Step) where
-  pub names-fault : (step_check room places step ≡ StepCheck.Faulty StepFault.Misnamed) ↔ FaultNames room places step
+  pub names-fault : (step_check room places step ≡ Err StepFault.Misnamed) ↔ FaultNames room places step
   names-fault = (λ e. record { misnamed = (misnamed-check room places step).0 e }, λ f. (misnamed-check room places step).1 f.misnamed)
 
-  pub source-fault : (step_check room places step ≡ StepCheck.Faulty StepFault.Elsewhere) ↔ FaultSource room places step
+  pub source-fault : (step_check room places step ≡ Err StepFault.Elsewhere) ↔ FaultSource room places step
   source-fault = (
     λ e. let t = (elsewhere-check room places step).0 e in record { well-named = t.well-named; elsewhere = wrong-found places step t.elsewhere },
     λ f. (elsewhere-check room places step).1 (record { well-named = f.well-named; elsewhere = wrong-refused places step f.elsewhere }),
   )
 
-  pub destination-fault : (step_check room places step ≡ StepCheck.Faulty StepFault.Forbidden) ↔ FaultDestination room places step
+  pub destination-fault : (step_check room places step ≡ Err StepFault.Forbidden) ↔ FaultDestination room places step
   destination-fault = (
     λ e. let t = (forbidden-check room places step).0 e in record { well-named = t.well-named; well-sourced = t.well-sourced; forbidden = t.forbidden },
     λ f. (forbidden-check room places step).1 (record { well-named = f.well-named; well-sourced = f.well-sourced; forbidden = f.forbidden }),
   )
 
-  pub fit-fault : (step_check room places step ≡ StepCheck.Faulty StepFault.Misfit) ↔ FaultFit room places step
+  pub fit-fault : (step_check room places step ≡ Err StepFault.Misfit) ↔ FaultFit room places step
   fit-fault = (
     λ e. let t = (misfit-check room places step).0 e in
         record {
@@ -208,7 +205,7 @@ module _ (room : Room) (places : Placement) (step : Step) where
     }),
   )
 
-  pub mate-fault : (step_check room places step ≡ StepCheck.Faulty StepFault.Mate) ↔ FaultMate room places step
+  pub mate-fault : (step_check room places step ≡ Err StepFault.Mate) ↔ FaultMate room places step
   mate-fault = (
     λ e. let t = (mate-check room places step).0 e in
         record {
@@ -231,7 +228,7 @@ module _ (room : Room) (places : Placement) (step : Step) where
       fitted f true t = refl
       fitted f false t = absurd (f.fit ((misfit-exact room places step f.well-named).0 t))
 
-  pub turn-fault : (step_check room places step ≡ StepCheck.Faulty StepFault.Early) ↔ FaultTurn room places step
+  pub turn-fault : (step_check room places step ≡ Err StepFault.Early) ↔ FaultTurn room places step
   turn-fault = (
     λ e. let t = (early-check room places step).0 e in
         record {
@@ -258,7 +255,7 @@ module _ (room : Room) (places : Placement) (step : Step) where
 
 -- the first step at fault, as the checker finds it and as every run has it
 pub first-fault : (room : Room) (places : Placement) (steps : List Step) (n : ℕ) (fault : StepFault) (P : Placement → Step → Type 0) →
-    length places ≡ length room.vms → ((start : Placement) (step : Step) → (step_check room start step ≡ StepCheck.Faulty fault) ↔ P start step) →
+    length places ≡ length room.vms → ((start : Placement) (step : Step) → (step_check room start step ≡ Err fault) ↔ P start step) →
     StepRefused room places steps fault n ↔ FirstAtFault room places steps n P
 first-fault room places steps n fault P l iff = (found, refused)
   where
@@ -348,7 +345,7 @@ ends-away room places steps l = (runs, found)
 
 -- with none of the faults 23 and 1 to 14 it is the verdict on the steps
 pub shaped-verdict : (reserve : ℕ) (cluster plan : List ℕ) → Shaped reserve cluster plan → verdict_of reserve cluster plan ≡ plan_verdict (room_at reserve cluster) (steps_of plan)
-unfolding verdict_of on_reserve on_cluster on_target on_plan
+unfolding verdict_of on_reserve on_check
 shaped-verdict reserve cluster plan h = simp (le-ltb most_reserve reserve h.taken.reserve-taken, h.taken.cluster-whole, h.taken.target-good, h.plan-whole)
 
 -- a verdict that is reached before the cluster is looked at
@@ -380,30 +377,20 @@ on-reserve rest v n reserve e = go (ltb most_reserve reserve) refl e
     go false a f = (ltb-false most_reserve reserve a, f)
 
 module _ (rest v : Verdict) (l : past_checks v ≡ true) where
-  on-cluster : (c : ClusterCheck) → on_cluster c rest ≡ v → (c ≡ ClusterCheck.Whole) × (rest ≡ v)
-  unfolding on_cluster
-  on-cluster ClusterCheck.Whole e = (refl, e)
-  on-cluster (ClusterCheck.Damaged fault) e = absurd (false≢true (rw (← e) at l))
-
-  on-target : (c : TargetCheck) → on_target c rest ≡ v → (c ≡ TargetCheck.Good) × (rest ≡ v)
-  unfolding on_target
-  on-target TargetCheck.Good e = (refl, e)
-  on-target (TargetCheck.Bad fault) e = absurd (false≢true (rw (← e) at l))
-
-  on-plan : (c : PlanCheck) → on_plan c rest ≡ v → (c ≡ PlanCheck.Whole) × (rest ≡ v)
-  unfolding on_plan
-  on-plan PlanCheck.Whole e = (refl, e)
-  on-plan (PlanCheck.Damaged fault) e = absurd (false≢true (rw (← e) at l))
+  on-check : {E : Type 0} (kind : E → Fault) → ((fault : E) → past_checks (Verdict.Refused (kind fault)) ≡ false) → (c : Result (Unit {0}) E) → on_check kind c rest ≡ v → (c ≡ Ok tt) × (rest ≡ v)
+  unfolding on_check
+  on-check kind k (Ok done) e = (refl, e)
+  on-check kind k (Err fault) e = absurd (false≢true (sym (k fault) ∙ ap past_checks e ∙ l))
 
 -- what is behind the test of the reserve
 behind-checks : (reserve : ℕ) (cluster plan : List ℕ) (v : Verdict) → past_checks v ≡ true →
-    on_cluster (cluster_check cluster) (on_target (target_check (room_at reserve cluster)) (on_plan (plan_check plan) (plan_verdict (room_at reserve cluster) (steps_of plan)))) ≡ v →
-    (cluster_check cluster ≡ ClusterCheck.Whole) × (target_check (room_at reserve cluster) ≡ TargetCheck.Good) × (plan_check plan ≡ PlanCheck.Whole) ×
+    on_check Fault.Cluster (cluster_check cluster) (on_check Fault.Target (target_check (room_at reserve cluster)) (on_check Fault.Plan (plan_check plan) (plan_verdict (room_at reserve cluster) (steps_of plan)))) ≡ v →
+    (cluster_check cluster ≡ Ok tt) × (target_check (room_at reserve cluster) ≡ Ok tt) × (plan_check plan ≡ Ok tt) ×
     (plan_verdict (room_at reserve cluster) (steps_of plan) ≡ v)
 behind-checks reserve cluster plan v l e =
-    let c = on-cluster _ v l (cluster_check cluster) e in
-    let t = on-target _ v l (target_check (room_at reserve cluster)) c.1 in
-    let p = on-plan _ v l (plan_check plan) t.1 in
+    let c = on-check _ v l Fault.Cluster (λ f. refl) (cluster_check cluster) e in
+    let t = on-check _ v l Fault.Target (λ f. refl) (target_check (room_at reserve cluster)) c.1 in
+    let p = on-check _ v l Fault.Plan (λ f. refl) (plan_check plan) t.1 in
     (c.0, t.0, p.0, p.1)
 
 late-shaped : (reserve : ℕ) (cluster plan : List ℕ) (v : Verdict) → early v ≡ false → past_checks v ≡ true → verdict_of reserve cluster plan ≡ v →
@@ -415,10 +402,10 @@ late-shaped reserve cluster plan v n l e =
     (record { taken = record { reserve-taken = r.0; cluster-whole = b.0; target-good = b.1 }; plan-whole = b.2 }, b.3)
 
 -- the steps say nothing of the reserve
-step-later : (number : ℕ) (rest : Verdict) → early rest ≡ false → (c : StepCheck) → early (on_step c number rest) ≡ false
-unfolding on_step
-step-later number rest l StepCheck.Clear = l
-step-later number rest l (StepCheck.Faulty fault) = refl
+step-later : (number : ℕ) (rest : Verdict) → early rest ≡ false → (c : Result (Unit {0}) StepFault) → early (on_check (λ fault. Fault.Step fault number) c rest) ≡ false
+unfolding on_check
+step-later number rest l (Ok done) = l
+step-later number rest l (Err fault) = refl
 
 module _ (room : Room) (good : Verdict) (g : early good ≡ false) where
   steps-later : (places : Placement) (number : ℕ) (steps : List Step) → early (steps_verdict room good places number steps) ≡ false
@@ -526,7 +513,7 @@ module _ (reserve : ℕ) (cluster plan : List ℕ) where
       room = room_at reserve cluster
 
       above : (x : Bool) → ltb most_reserve reserve ≡ x →
-          pick x (Verdict.Refused Fault.Reserve) (on_cluster (cluster_check cluster) (on_target (target_check room) (on_plan (plan_check plan) (plan_verdict room (steps_of plan))))) ≡
+          pick x (Verdict.Refused Fault.Reserve) (on_check Fault.Cluster (cluster_check cluster) (on_check Fault.Target (target_check room) (on_check Fault.Plan (plan_check plan) (plan_verdict room (steps_of plan))))) ≡
           Verdict.Refused Fault.Reserve → most_reserve < reserve
       above true q e = ltb-true most_reserve reserve q
       above false q e =
@@ -562,23 +549,23 @@ module _ (reserve : ℕ) (cluster plan : List ℕ) where
 
 -- an accepted plan, for the calls behind the checker: both records are whole
 module _ (reserve : ℕ) (cluster plan : List ℕ) (v : Verdict) (e : v ≡ verdict_of reserve cluster plan) (cost : ℕ) (a : v ≡ Verdict.Accepted cost) where
-  pub accepted-cluster : cluster_check cluster ≡ ClusterCheck.Whole
+  pub accepted-cluster : cluster_check cluster ≡ Ok tt
   accepted-cluster = (only-holds reserve cluster plan cost (sym e ∙ a)).0.taken.cluster-whole
 
-  pub accepted-plan : plan_check plan ≡ PlanCheck.Whole
+  pub accepted-plan : plan_check plan ≡ Ok tt
   accepted-plan = (only-holds reserve cluster plan cost (sym e ∙ a)).0.plan-whole
 
 -- ---- a plan of no steps
 
 module _ (reserve : ℕ) (cluster : List ℕ) where
   -- whatever its bytes: behind 23 and the faults of the cluster it is refused with 19, or accepted at no cost
-  pub no_steps : (plan : List ℕ) → plan_check plan ≡ PlanCheck.Whole → steps_of plan ≡ [] →
+  pub no_steps : (plan : List ℕ) → plan_check plan ≡ Ok tt → steps_of plan ≡ [] →
       verdict_of reserve cluster plan ≡
       on_reserve reserve
-      (on_cluster (cluster_check cluster)
-      (on_target (target_check (room_at reserve cluster))
+      (on_check Fault.Cluster (cluster_check cluster)
+      (on_check Fault.Target (target_check (room_at reserve cluster))
       (pick (home (room_at reserve cluster) (current_of (room_at reserve cluster))) (Verdict.Accepted 0) (Verdict.Refused Fault.OffTarget))))
-  unfolding verdict_of on_plan plan_verdict steps_verdict cost_of cost_from
+  unfolding verdict_of on_check plan_verdict steps_verdict cost_of cost_from
   no_steps plan w e = rw (w, e) refl
 
   -- 0 bytes and a header with 0 steps, of either version: the same verdict at every reserve on every cluster, whatever its bytes

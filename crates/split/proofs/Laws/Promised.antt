@@ -8,12 +8,13 @@ use native.Mathlib.Omega.{arith}
 use lib.ListN.{length, drop}
 use lib.Dec.{ltb}
 use borrow.Author.Tests.{lt-ltb, le-ltb, ltb-true, ltb-false}
+use Rattle.std.specs.Prelude.{Ok}
 use Rattle.records.specs.Base.{pick}
 use Rattle.records.specs.Bytes.{AreBytes}
-use Rattle.records.specs.Room.{Room, room_of, room_at, at_reserve}
-use Rattle.records.specs.Plan.{Step, move_total, steps_of, most_steps, plan_check, header_bytes, kept_version, written_version, front_of}
+use Rattle.records.specs.Room.{most_reserve, room_at, cluster_check}
+use Rattle.records.specs.Plan.{move_total, steps_of, most_steps, plan_check, header_bytes, kept_version, written_version, front_of, written}
 use Rattle.records.specs.declared.faults.PlanFault.{PlanFault}
-use Rattle.records.specs.declared.faults.PlanCheck.{PlanCheck}
+use Rattle.records.proofs.Laws.Sound.{read-amounts}
 use Rattle.records.proofs.Laws.Steps.{empty-steps}
 use Rattle.records.proofs.Laws.Written.{written-zero}
 use Rattle.records.proofs.Laws.RoundTrip.{record-version, record-none, kept-none}
@@ -25,20 +26,19 @@ use Rattle.rules.specs.Promises.{Accepts, Checked, AcceptedDivided}
 use Rattle.rules.specs.declared.faults.Fault.{Fault}
 use Rattle.rules.specs.declared.faults.Verdict.{Verdict}
 use Rattle.rules.proofs.Laws.Orders.{never}
-use Rattle.rules.proofs.Laws.Reserve.{cost-same}
 use Rattle.rules.proofs.Laws.Returned.{accepted-says}
 use Rattle.rules.proofs.Laws.Costs.{cost-low}
 use Rattle.rules.proofs.Laws.Verdicts.{only-holds, accepted-steps, step-most}
 use Rattle.rules.proofs.Laws.Contract.{contract}
 use Rattle.split.specs.Splits.{all_singles, split_record, least_split, divided_into, on_verdict, accepted_split, split_of, buffer_of, packed_split}
 use Rattle.split.specs.Promises.{SplitWell, told_divided, TellsSplit, Splits, Split}
-use Rattle.split.specs.Inner.{Packs, SplitsAccepted}
+use Rattle.split.specs.Inner.{Packs}
 use Rattle.split.specs.declared.outcome.Divided.{Divided}
 use Rattle.split.specs.declared.outcome.SplitFault.TheVariants.{Check, Buffer, TooMany}
 use Rattle.split.specs.declared.outcome.Outcome.{Outcome}
 use Rattle.split.specs.declared.outcome.Outcome.TheVariants.{Done, Refused}
 use Rattle.split.proofs.Laws.Singles.{all-length, all-divide, all-single, all-rise, singles-most}
-use Rattle.split.proofs.Laws.Writing.{split-whole, split_steps, split-front, split-low}
+use Rattle.split.proofs.Laws.Writing.{split_steps, split-shaped, split-front, split-low}
 use Rattle.split.proofs.Laws.Packing.{tells-split, says-done, done-says, refused_says, says-short, says-many}
 
 -- ---- the two tests of a split
@@ -113,30 +113,51 @@ own-many f e = never (cc)
 
 -- ---- the contracts of the inner functions
 
--- the cost does not look at the reserve
-into-same : (reserve : ℕ) (room : Room) (steps : List Step) → divided_into (at_reserve reserve room) steps ≡ divided_into room steps
-unfolding divided_into
-into-same reserve room steps i = record { steps = length steps; cost = cost-same reserve room steps i }
+module _ (reserve : ℕ) (cluster plan : List ℕ) (accepts : Accepts reserve cluster plan) where
+  pub reserve-taken : reserve ≤ most_reserve
+  reserve-taken = (only-holds reserve cluster plan accepts.0 accepts.1).0.taken.reserve-taken
 
-module _ (reserve : ℕ) (cluster plan : List ℕ) (v : Verdict) (e : v ≡ verdict_of reserve cluster plan) where
-  pub splits-refused : (before : List ℕ) (f : Fault) → v ≡ Verdict.Refused f → Splits reserve cluster plan before before (Refused (Check f))
+  pub cluster-whole : cluster_check cluster ≡ Ok tt
+  cluster-whole = (only-holds reserve cluster plan accepts.0 accepts.1).0.taken.cluster-whole
+
+  pub plan-whole : plan_check plan ≡ Ok tt
+  plan-whole = (only-holds reserve cluster plan accepts.0 accepts.1).0.plan-whole
+
+module _ (reserve : ℕ) (cluster plan before : List ℕ) where
+  pub splits-refused : (f : Fault) → verdict_of reserve cluster plan ≡ Verdict.Refused f → Splits reserve cluster plan before before (Refused (Check f))
   unfolding buffer_of
-  splits-refused before f q = record { is = sym (refused-is reserve cluster plan (length before) f (sym e ∙ q)); buffer = refl }
+  splits-refused f e = record { is = sym (refused-is reserve cluster plan (length before) f e); buffer = refl }
 
-  pub splits-on : (before after : List ℕ) (cost : ℕ) (r : Outcome) → v ≡ Verdict.Accepted cost → SplitsAccepted cluster plan before after r → Splits reserve cluster plan before after r
-  unfolding accepted_split
-  splits-on before after cost r a s = record {
-    is =
-        s.is ∙ ap (λ (d : Divided). tested d (ltb (length before) least_split) (many plan)) (sym (into-same reserve (room_of cluster) (all_singles (steps_of plan)))) ∙
-        sym (accepted-is reserve cluster plan (length before) (cost, sym e ∙ a));
-    buffer = s.buffer;
-  }
+  -- behind the checker: 10 and 14, then the record
+  module _ (accepts : Accepts reserve cluster plan) where
+    pub splits-short : length before < least_split → Splits reserve cluster plan before before (Refused Buffer)
+    unfolding buffer_of
+    splits-short h = record { is = sym (accepted-is reserve cluster plan (length before) accepts ∙ rw (lt-ltb (length before) least_split h)); buffer = refl }
+
+    module _ (moves : ℕ) (m : moves ≡ move_total (steps_of plan)) (h : least_split ≤ length before) where
+      count : length (all_singles (steps_of plan)) ≡ moves
+      count = all-length (steps_of plan) ∙ sym m
+
+      pub splits-many : most_steps < moves → Splits reserve cluster plan before before (Refused TooMany)
+      unfolding buffer_of
+      splits-many k = record {
+        is = sym (accepted-is reserve cluster plan (length before) accepts ∙ rw (le-ltb (length before) least_split h, count, lt-ltb most_steps moves k));
+        buffer = refl;
+      }
+
+      pub splits-done : (divided : Divided) (after : List ℕ) → divided ≡ divided_into (room_at reserve cluster) (all_singles (steps_of plan)) → after ≡ written before 0 (split_record plan) →
+          moves ≤ most_steps → Splits reserve cluster plan before after (Done divided)
+      unfolding buffer_of
+      splits-done divided after d a k = record {
+        is = ap Done d ∙ sym (accepted-is reserve cluster plan (length before) accepts ∙ rw (le-ltb (length before) least_split h, count, le-ltb most_steps moves k));
+        buffer = a;
+      }
 
 -- ---- the record written
 
 module _ (reserve : ℕ) (cluster plan : List ℕ) (b : AreBytes cluster) (a : Accepts reserve cluster plan) (few : move_total (steps_of plan) ≤ most_steps) where
-  plan-whole : plan_check plan ≡ PlanCheck.Whole
-  plan-whole = (only-holds reserve cluster plan a.0 a.1).0.plan-whole
+  whole : plan_check plan ≡ Ok tt
+  whole = plan-whole reserve cluster plan a
 
   count-few : length (all_singles (steps_of plan)) ≤ most_steps
   count-few = singles-most (steps_of plan) (move_total (steps_of plan)) refl few
@@ -151,7 +172,7 @@ module _ (reserve : ℕ) (cluster plan : List ℕ) (b : AreBytes cluster) (a : A
       (all_singles (steps_of plan)) (all-divide (steps_of plan)) count-few
 
   steps-are : steps_of (split_record plan) ≡ all_singles (steps_of plan)
-  steps-are = split_steps plan plan-whole (move_total (steps_of plan)) refl few
+  steps-are = split_steps plan whole (move_total (steps_of plan)) refl few
 
   empty-is : plan ≡ [] → split_record plan ≡ header_bytes 2 7 0
   unfolding split_record all_singles
@@ -186,15 +207,15 @@ module _ (reserve : ℕ) (cluster plan : List ℕ) (b : AreBytes cluster) (a : A
         moves = sym (all-length (steps_of plan));
         most = count-few;
         cost = ap (cost_of (room_at reserve cluster)) steps-are;
-        small = split-low plan plan-whole (move_total (steps_of plan)) refl few;
+        small = split-low plan whole (move_total (steps_of plan)) refl few;
       })
 
   -- the cost has room in the number
   cost-most : (divided_into (room_at reserve cluster) (all_singles (steps_of plan))).cost < 2 ^ 43
   unfolding divided_into
   cost-most =
-      rw (cost-same reserve (room_of cluster) (all_singles (steps_of plan)), ← steps-are)
-      (cost-low cluster (split_record plan) b (split-whole plan plan-whole (move_total (steps_of plan)) refl few))
+      cost-low (room_at reserve cluster) (all_singles (steps_of plan))
+      (read-amounts reserve cluster b) (split-shaped plan whole (move_total (steps_of plan)) refl few)
 
 -- ---- the number returned
 
@@ -287,7 +308,7 @@ module _ (reserve : ℕ) (cluster plan before after : List ℕ) (b : AreBytes cl
     well-is g =
         let d : outcome ≡ Done (told_divided r) = says-done r outcome told g in
         let p = passed (told_divided r) d in
-        let w = plan-whole reserve cluster plan b p.accepts p.few in
+        let w = plan-whole reserve cluster plan p.accepts in
         let f : after ≡ split_record plan ++ drop (length (split_record plan)) before =
         buffer-is ∙ ap (λ (x : Outcome). buffer_of x (split_record plan) before) d ∙ written-zero before (split_record plan) in
         split-well reserve cluster plan b p.accepts p.few (front_of after) (told_divided r)

@@ -11,7 +11,7 @@ use Rattle.rules.specs.Moments.{current_of, target_of, after, within, bears, bea
 use Rattle.rules.specs.Orders.{spreads, some, mates, meets_mate}
 use Rattle.rules.specs.Rules.{keeps_from, allowed, from, fits_all, keeps, target_check, aims, named, is_place, sourced, permitted, fitting, unmet, has_move, respects, in_turn, step_check}
 use Rattle.rules.specs.Cost.{memory_of, step_cost, cost_from, cost_of}
-use Rattle.rules.specs.Verdict.{home, on_reserve, on_cluster, on_target, on_plan, on_step, steps_verdict, plan_verdict, verdict_of}
+use Rattle.rules.specs.Verdict.{home, on_reserve, on_check, steps_verdict, plan_verdict, verdict_of}
 use Rattle.rules.specs.Returned.{told_outcome, told_number, told_step, told_moves, told_cost, SaysGood, SaysRefused}
 use Rattle.rules.specs.declared.faults.StepFault.{StepFault}
 use Rattle.rules.specs.declared.faults.Fault.{Fault}
@@ -99,7 +99,7 @@ pub record ToldApart : Type 0 where
   pub checked-first : SaysRefused (returns unfinished 0) 19 0
 
 pub told-apart : ToldApart
-unfolding room has three one falling_singles always_naming cluster plain plain_single naming naming_single unfinished returns singles all_singles split_record divided_into on_verdict accepted_split split_of told_singles all sum_of be16 be24 be32 bytes16 bytes32 on_node node_of vm_of usable usable_node at_reserve vms_of rows node_row vm_row part_at parts_from parts_end parts_of constraint_of room_of knows_nowhere counts_ok place_ok vm_ok well_formed cluster_check known_version names_sources move_width source_at move_at step_at steps_from steps_end steps_of move_total sized shaped plan_check source_bytes move_bytes moves_bytes step_bytes steps_bytes header_bytes record_bytes kept_version current_of target_of after within bears bears_at counts_on tally_at phase_of cells_from first_moment begun all_running spreads some mates meets_mate keeps_from allowed from fits_all keeps target_check aims named is_place sourced permitted fitting unmet has_move respects in_turn step_check memory_of step_cost cost_from cost_of home on_reserve on_cluster on_target on_plan on_step steps_verdict plan_verdict verdict_of told_outcome told_number told_step told_moves told_cost
+unfolding room has three one falling_singles always_naming cluster plain plain_single naming naming_single unfinished returns singles all_singles split_record divided_into on_verdict accepted_split split_of told_singles all sum_of be16 be24 be32 bytes16 bytes32 on_node node_of vm_of usable usable_node at_reserve vms_of rows node_row vm_row part_at parts_from parts_end parts_of constraint_of room_of knows_nowhere counts_ok place_ok vm_ok well_formed cluster_check known_version names_sources move_width source_at move_at step_at steps_from steps_end steps_of move_total sized shaped plan_check source_bytes move_bytes moves_bytes step_bytes steps_bytes header_bytes record_bytes kept_version current_of target_of after within bears bears_at counts_on tally_at phase_of cells_from first_moment begun all_running spreads some mates meets_mate keeps_from allowed from fits_all keeps target_check aims named is_place sourced permitted fitting unmet has_move respects in_turn step_check memory_of step_cost cost_from cost_of home on_reserve on_check steps_verdict plan_verdict verdict_of told_outcome told_number told_step told_moves told_cost
 told-apart = record {
   right = refl;
   falling = refl;

@@ -10,13 +10,14 @@ use lib.ListN.{length, get_or, set, take, drop, take-append-drop}
 use lib.Seq.{drop-cons, get_or-set_same, get_or-set_other, set_out}
 use lib.Dec.{ltb, eqb}
 use borrow.Author.Tests.{ltb-true, eqb-true}
+use Rattle.std.specs.Prelude.{Ok}
 use Rattle.records.specs.Base.{pick}
-use Rattle.records.specs.Room.{Room, nowhere, room_of, node_count, vm_count, knows_nowhere, place_ok, cluster_check, updated}
-use Rattle.records.specs.Plan.{Step, step_count, steps_of}
-use Rattle.records.specs.declared.faults.ClusterCheck.{ClusterCheck}
+use Rattle.records.specs.Room.{Room, IsSound, nowhere, room_of, room_at, at_reserve, node_count, vm_count, knows_nowhere, place_ok, cluster_check, updated}
+use Rattle.records.specs.Plan.{Step, steps_of}
 use Rattle.records.proofs.Laws.Bools.{and_left, and_right, and_both}
 use Rattle.records.proofs.Laws.Rows.{place-node}
 use Rattle.records.proofs.Laws.Cluster.{nodes-count, vms-count, current-ok, target_ok}
+use Rattle.records.proofs.Laws.Sound.{read-sound}
 use Rattle.records.proofs.Laws.Updated.{updated-same}
 use Rattle.rules.specs.Moments.{Placement, place_of, current_of, target_of, after}
 use Rattle.rules.specs.Rules.{aims, named}
@@ -27,10 +28,10 @@ use Rattle.rules.proofs.Laws.Sound.{named-part}
 use Rattle.rules.proofs.Laws.Places.{current-at, target_at, current-holds}
 use Rattle.rules.proofs.Laws.Fit.{held_at}
 use Rattle.rules.proofs.Laws.Turns.{after-held}
+use Rattle.rules.proofs.Laws.Reserve.{current-same}
 use Rattle.stop.specs.Stops.{numbered, ended_moves, marked, stopped_at, stopped_record}
-use Rattle.stop.specs.Inner.{array_before, array_stopped}
-use Rattle.stop.proofs.Laws.Walks.{step-at, steps-taken}
-use Rattle.stop.proofs.Laws.Outcomes.{marked-first, marked-last, marked-below}
+use Rattle.stop.specs.Inner.{array_stopped}
+use Rattle.stop.proofs.Laws.Outcomes.{marked-first, marked-last}
 
 -- ---- the moves that have ended are a part of the step
 
@@ -77,63 +78,58 @@ split_steps steps k h = ap (λ (l : List Step). take k steps ++ l) (sym (drop-co
 
 -- ---- the array is the placement
 
-after-all-held : (s places : List ℕ) (steps : List Step) → named_all (room_of s) (held s places) steps ≡ true → held s (after_all places steps) ≡ after_all (held s places) steps
+after-all-held : (room : Room) (places : List ℕ) (steps : List Step) → named_all room (held room places) steps ≡ true → held room (after_all places steps) ≡ after_all (held room places) steps
 unfolding after_all named_all
-after-all-held s places [] e = refl
-after-all-held s places (step ∷ steps) e =
-    let name = and_left (named (room_of s) (held s places) 0 step) (named_all (room_of s) (after (held s places) step) steps) e in
-    let more = and_right (named (room_of s) (held s places) 0 step) (named_all (room_of s) (after (held s places) step) steps) e in
-    let h = after-held s places (held s places) 0 step name in
-    after-all-held s (after places step) steps (rw h more) ∙ ap (λ (p : Placement). after_all p steps) h
+after-all-held room places [] e = refl
+after-all-held room places (step ∷ steps) e =
+    let name = and_left (named room (held room places) 0 step) (named_all room (after (held room places) step) steps) e in
+    let more = and_right (named room (held room places) 0 step) (named_all room (after (held room places) step) steps) e in
+    let h = after-held room places (held room places) 0 step name in
+    after-all-held room (after places step) steps (rw h more) ∙ ap (λ (p : Placement). after_all p steps) h
 
-module _ (cluster plan marks : List ℕ) (n : ℕ) (w : cluster_check cluster ≡ ClusterCheck.Whole)
-    (name : named_all (room_of cluster) (current_of (room_of cluster)) (steps_of plan) ≡ true) (m : marked (steps_of plan) n marks ≡ true) where
+module _ (room : Room) (steps : List Step) (marks : List ℕ) (n : ℕ) (name : named_all room (current_of room) steps ≡ true) (m : marked steps n marks ≡ true) where
   abbrev pub start : Placement
-  start = after_all (current_of (room_of cluster)) (take (n - 1) (steps_of plan))
+  start = after_all (current_of room) (take (n - 1) steps)
 
-  name-before : named_all (room_of cluster) (current_of (room_of cluster)) (take (n - 1) (steps_of plan)) ≡ true
-  name-before = named-before (room_of cluster) (current_of (room_of cluster)) (steps_of plan) (n - 1) name
+  name-before : named_all room (current_of room) (take (n - 1) steps) ≡ true
+  name-before = named-before room (current_of room) steps (n - 1) name
 
-  below : n - 1 < length (steps_of plan)
-  below = let a = marked-first plan marks n m in let b = marked-last plan marks n m in omega arith
+  below : n - 1 < length steps
+  below = let a = marked-first steps marks n m in let b = marked-last steps marks n m in omega arith
 
-  name-step : named (room_of cluster) start 0 (numbered (steps_of plan) n) ≡ true
+  name-step : named room start 0 (numbered steps n) ≡ true
   unfolding numbered
-  name-step = named-at (room_of cluster) (current_of (room_of cluster)) (steps_of plan) (n - 1) name below
+  name-step = named-at room (current_of room) steps (n - 1) name below
 
-  name-ended : named (room_of cluster) start 0 (ended_moves (numbered (steps_of plan) n) marks) ≡ true
-  name-ended = named-part (room_of cluster) start 0 0 (ended-part (numbered (steps_of plan) n) marks) (omega arith) name-step
+  name-ended : named room start 0 (ended_moves (numbered steps n) marks) ≡ true
+  name-ended = named-part room start 0 0 (ended-part (numbered steps n) marks) (omega arith) name-step
 
   -- in arrays the same happens
-  array : List ℕ
-  array = array_of (current_of (room_of cluster))
+  module _ (sound : IsSound room) where
+    array : List ℕ
+    array = array_of (current_of room)
 
-  array-current : held cluster array ≡ current_of (room_of cluster)
-  unfolding array
-  array-current = (current-holds cluster array refl w).is
+    array-current : held room array ≡ current_of room
+    unfolding array
+    array-current = (current-holds room array refl sound).is
 
-  before-is : held cluster (array_before cluster plan (n - 1)) ≡ start
-  unfolding array_before steps_of array
-  before-is =
-      let t = steps-taken plan 7 (step_count plan) (n - 1) (let b = marked-below plan marks n m in omega arith) in
-      rw (← t) (after-all-held cluster array (take (n - 1) (steps_of plan)) (rw array-current name-before) ∙ ap (λ (p : Placement). after_all p (take (n - 1) (steps_of plan))) array-current)
+    before-is : held room (after_all array (take (n - 1) steps)) ≡ start
+    before-is =
+        after-all-held room array (take (n - 1) steps) (rw array-current name-before) ∙ ap (λ (p : Placement). after_all p (take (n - 1) steps)) array-current
 
-  array-is : held cluster (array_stopped cluster plan (n - 1) marks) ≡ stopped_at (room_of cluster) (steps_of plan) n marks
-  unfolding array_stopped stopped_at numbered steps_of
-  array-is =
-      let s = step-at plan 7 (step_count plan) (n - 1) (marked-below plan marks n m) in
-      rw (← s) (after-held cluster (array_before cluster plan (n - 1)) start 0 (ended_moves (numbered (steps_of plan) n) marks) name-ended ∙
-      ap (λ (p : Placement). after p (ended_moves (numbered (steps_of plan) n) marks)) before-is)
+    array-is : held room (array_stopped room steps n marks) ≡ stopped_at room steps n marks
+    unfolding array_stopped stopped_at array
+    array-is =
+        after-held room (after_all array (take (n - 1) steps)) start 0 (ended_moves (numbered steps n) marks) name-ended ∙
+        ap (λ (p : Placement). after p (ended_moves (numbered steps n) marks)) before-is
 
-  pub record_is : updated cluster (array_stopped cluster plan (n - 1) marks) ≡ stopped_record cluster plan n marks
-  unfolding stopped_record
-  record_is =
-      updated-same cluster (array_stopped cluster plan (n - 1) marks) (stopped_at (room_of cluster) (steps_of plan) n marks)
-      (λ v h. sym (held_at cluster (array_stopped cluster plan (n - 1) marks) v h) ∙ ap (λ (p : Placement). place_of p v) array-is)
+    -- of each VM that there is
+    pub array-place : (v : ℕ) → v < length room.vms → place_of (array_stopped room steps n marks) v ≡ place_of (stopped_at room steps n marks) v
+    array-place v h = sym (held_at room (array_stopped room steps n marks) v h) ∙ ap (λ (p : Placement). place_of p v) array-is
 
 -- ---- places that the record's version knows
 
-module _ (s : List ℕ) (w : cluster_check s ≡ ClusterCheck.Whole) where
+module _ (s : List ℕ) (w : cluster_check s ≡ Ok tt) where
   known : ℕ → Bool
   known place = place_ok (knows_nowhere s) (node_count s) place
 
@@ -173,11 +169,33 @@ module _ (s : List ℕ) (w : cluster_check s ≡ ClusterCheck.Whole) where
       all_known (after places step) steps (and_right (named (room_of s) places 0 step) (named_all (room_of s) (after places step) steps) n) l
       (after-known places places 0 step (and_left (named (room_of s) places 0 step) (named_all (room_of s) (after places step) steps) n) l h)
 
-module _ (cluster plan marks : List ℕ) (n : ℕ) (w : cluster_check cluster ≡ ClusterCheck.Whole)
-    (name : named_all (room_of cluster) (current_of (room_of cluster)) (steps_of plan) ≡ true) (m : marked (steps_of plan) n marks ≡ true) where
-  pub stopped-known : (v : ℕ) → v < vm_count cluster → place_ok (knows_nowhere cluster) (node_count cluster) (place_of (stopped_at (room_of cluster) (steps_of plan) n marks) v) ≡ true
+module _ (cluster marks : List ℕ) (steps : List Step) (n : ℕ) (w : cluster_check cluster ≡ Ok tt) (name : named_all (room_of cluster) (current_of (room_of cluster)) steps ≡ true)
+    (m : marked steps n marks ≡ true) where
+  pub stopped-known : (v : ℕ) → v < vm_count cluster → place_ok (knows_nowhere cluster) (node_count cluster) (place_of (stopped_at (room_of cluster) steps n marks) v) ≡ true
   unfolding stopped_at known
   stopped-known =
-      after-known cluster w (start cluster plan marks n w name m) (start cluster plan marks n w name m) 0 (ended_moves (numbered (steps_of plan) n) marks) (name-ended cluster plan marks n w name m) (vms-count cluster)
-      (all_known cluster w (current_of (room_of cluster)) (take (n - 1) (steps_of plan)) (name-before cluster plan marks n w name m) (vms-count cluster)
+      after-known cluster w (start (room_of cluster) steps marks n name m) (start (room_of cluster) steps marks n name m) 0 (ended_moves (numbered steps n) marks)
+      (name-ended (room_of cluster) steps marks n name m) (vms-count cluster)
+      (all_known cluster w (current_of (room_of cluster)) (take (n - 1) steps) (name-before (room_of cluster) steps marks n name m) (vms-count cluster)
       (λ v h. ap (place_ok (knows_nowhere cluster) (node_count cluster)) (current-at (room_of cluster) v) ∙ current-ok cluster v w h))
+
+-- ---- the record of the array is that of the placement, at any reserve
+
+module _ (reserve : ℕ) (cluster marks : List ℕ) (steps : List Step) (n : ℕ) where
+  -- the placement is the same at every reserve
+  pub places-at : stopped_at (room_at reserve cluster) steps n marks ≡ stopped_at (room_of cluster) steps n marks
+  unfolding stopped_at
+  places-at = rw (current-same reserve (room_of cluster))
+
+  module _ (w : cluster_check cluster ≡ Ok tt) (name : named_all (room_at reserve cluster) (current_of (room_at reserve cluster)) steps ≡ true) (m : marked steps n marks ≡ true) where
+    pub places-same : updated cluster (array_stopped (room_at reserve cluster) steps n marks) ≡ updated cluster (stopped_at (room_of cluster) steps n marks)
+    unfolding at_reserve
+    places-same =
+        updated-same cluster (array_stopped (room_at reserve cluster) steps n marks) (stopped_at (room_of cluster) steps n marks)
+        (λ v h. array-place (room_at reserve cluster) steps marks n name m (read-sound reserve cluster w) v (rw (vms-count cluster) h) ∙ ap (λ (p : Placement). place_of p v) places-at)
+
+pub record_is : (reserve : ℕ) (cluster plan marks : List ℕ) (n : ℕ) → cluster_check cluster ≡ Ok tt →
+    named_all (room_at reserve cluster) (current_of (room_at reserve cluster)) (steps_of plan) ≡ true → marked (steps_of plan) n marks ≡ true →
+    updated cluster (array_stopped (room_at reserve cluster) (steps_of plan) n marks) ≡ stopped_record cluster plan n marks
+unfolding stopped_record
+record_is reserve cluster plan marks n w name m = places-same reserve cluster marks (steps_of plan) n w name m

@@ -9,11 +9,11 @@ use lib.ListN.{length, get_or, take, drop}
 use lib.Seq.{take_at}
 use lib.Dec.{ltb, leb}
 use borrow.Author.Tests.{lt-ltb, le-ltb, le-leb, eq-eqb, ltb-true, ltb-false, leb-true, leb-false}
+use Rattle.std.specs.Prelude.{Result, Ok, Err}
 use Rattle.records.specs.Base.{pick, all}
 use Rattle.records.specs.Bytes.{AreBytes}
-use Rattle.records.specs.Room.{Room, node_of, room_of, room_at, at_reserve, at_places, updated, cluster_check}
-use Rattle.records.specs.Plan.{Step, steps_of, written}
-use Rattle.records.specs.declared.faults.ClusterCheck.{ClusterCheck}
+use Rattle.records.specs.Room.{Room, most_reserve, node_of, room_of, room_at, at_reserve, at_places, updated, cluster_check}
+use Rattle.records.specs.Plan.{Step, steps_of, plan_check}
 use Rattle.records.proofs.Laws.Bools.{and_left, and_right, and_both}
 use Rattle.records.proofs.Laws.Cluster.{nodes-most, whole-most}
 use Rattle.records.proofs.Laws.Reserve.{room-nodes}
@@ -33,13 +33,14 @@ use Rattle.rules.proofs.Laws.Verdicts.{only-holds, step-most, current-length}
 use Rattle.rules.proofs.Laws.Contract.{contract}
 use Rattle.stop.specs.Stops.{numbered, ended_moves, marked, marks_ok, stopped_at, stopped_record, accepted_stop, on_verdict, stop_of, buffer_of, packed_stop, told_length}
 use Rattle.stop.specs.Promises.{Stops, StoppedWell, StepMarked, MarksKnown, TellsStop, Stopped, as_placed}
-use Rattle.stop.specs.Inner.{Packs, array_stopped, StopsAccepted}
+use Rattle.stop.specs.Inner.{Packs, as_outcome, array_stopped, stopped_places, Puts}
+use Rattle.stop.specs.declared.outcome.StopFault.{StopFault}
 use Rattle.stop.specs.declared.outcome.StopFault.TheVariants.{Check, NoStep, BadMark, Buffer}
 use Rattle.stop.specs.declared.outcome.Outcome.{Outcome}
 use Rattle.stop.specs.declared.outcome.Outcome.TheVariants.{Done, Refused}
 use Rattle.stop.proofs.Laws.Placed.{placed-currents, placed-moment, placed-tally, placed-check, placed-reserve}
 use Rattle.stop.proofs.Laws.Outcomes.{marked-first, marked-last, marked-each}
-use Rattle.stop.proofs.Laws.Before.{after-all-length, record_is, stopped-known}
+use Rattle.stop.proofs.Laws.Before.{after-all-length, places-at, record_is, stopped-known}
 use Rattle.stop.proofs.Laws.Stopping.{stop-there, stop-memory, stop-cpu, stop-apart, stopped-up, some-stop, each-stop}
 use Rattle.stop.proofs.Laws.Packing.{tells-stop, says-done, done-says, refused_says, says-no-step, says-bad-mark, says-short}
 
@@ -82,12 +83,12 @@ module _ (size : ℕ) where
 
 -- ---- what the tests say
 
-step-marked : (plan marks : List ℕ) (n : ℕ) → marked (steps_of plan) n marks ≡ true → StepMarked (steps_of plan) n marks
-step-marked plan marks n e = record { first = marked-first plan marks n e; last = marked-last plan marks n e; each = marked-each plan marks n e }
+step-marked : (steps : List Step) (marks : List ℕ) (n : ℕ) → marked steps n marks ≡ true → StepMarked steps n marks
+step-marked steps marks n e = record { first = marked-first steps marks n e; last = marked-last steps marks n e; each = marked-each steps marks n e }
 
-marked-true : (plan marks : List ℕ) (n : ℕ) → StepMarked (steps_of plan) n marks → marked (steps_of plan) n marks ≡ true
+marked-true : (steps : List Step) (marks : List ℕ) (n : ℕ) → StepMarked steps n marks → marked steps n marks ≡ true
 unfolding marked
-marked-true plan marks n s = rw (le-leb 1 n s.first, le-leb n (length (steps_of plan)) s.last, eq-eqb (length marks) (length (numbered (steps_of plan) n)) s.each)
+marked-true steps marks n s = rw (le-leb 1 n s.first, le-leb n (length steps) s.last, eq-eqb (length marks) (length (numbered steps n)) s.each)
 
 marks-known : (marks : List ℕ) → marks_ok marks ≡ true → MarksKnown marks
 unfolding marks_ok all
@@ -169,10 +170,10 @@ own-short f e = never (cc)
 
 -- ---- the contracts of the inner functions
 
-module _ (reserve : ℕ) (cluster plan : List ℕ) (v : Verdict) (e : v ≡ verdict_of reserve cluster plan) where
-  pub stops-refused : (n : ℕ) (marks before : List ℕ) (f : Fault) → v ≡ Verdict.Refused f → Stops reserve cluster plan n marks before before (Refused (Check f))
-  unfolding buffer_of
-  stops-refused n marks before f q = record { is = sym (refused-is reserve cluster plan n marks (length before) f (sym e ∙ q)); buffer = refl }
+pub stops-refused : (reserve : ℕ) (cluster plan : List ℕ) (n : ℕ) (marks before : List ℕ) (f : Fault) → verdict_of reserve cluster plan ≡ Verdict.Refused f →
+    Stops reserve cluster plan n marks before before (Refused (Check f))
+unfolding buffer_of
+stops-refused reserve cluster plan n marks before f e = record { is = sym (refused-is reserve cluster plan n marks (length before) f e); buffer = refl }
 
 -- no step has 15 whatever the reserve
 named-all-same : (reserve : ℕ) (room : Room) (places : Placement) (steps : List Step) → named_all (at_reserve reserve room) places steps ≡ named_all room places steps
@@ -181,8 +182,14 @@ named-all-same reserve room places [] = refl
 named-all-same reserve room places (step ∷ steps) = rw (named-same reserve room places 0 step, named-all-same reserve room (after places step) steps)
 
 module _ (reserve : ℕ) (cluster plan : List ℕ) (a : Accepts reserve cluster plan) where
-  cluster-whole : cluster_check cluster ≡ ClusterCheck.Whole
+  pub reserve-taken : reserve ≤ most_reserve
+  reserve-taken = (only-holds reserve cluster plan a.0 a.1).0.taken.reserve-taken
+
+  pub cluster-whole : cluster_check cluster ≡ Ok tt
   cluster-whole = (only-holds reserve cluster plan a.0 a.1).0.taken.cluster-whole
+
+  pub plan-whole : plan_check plan ≡ Ok tt
+  plan-whole = (only-holds reserve cluster plan a.0 a.1).0.plan-whole
 
   names : named_all (room_at reserve cluster) (current_of (room_at reserve cluster)) (steps_of plan) ≡ true
   names = (only-holds reserve cluster plan a.0 a.1).1
@@ -190,21 +197,58 @@ module _ (reserve : ℕ) (cluster plan : List ℕ) (a : Accepts reserve cluster 
   own-names : named_all (room_of cluster) (current_of (room_of cluster)) (steps_of plan) ≡ true
   own-names = sym (named-all-same reserve (room_of cluster) (current_of (room_of cluster)) (steps_of plan)) ∙ rw (current-same reserve (room_of cluster)) at names
 
-  stops-accepted : (n : ℕ) (marks before after : List ℕ) (r : Outcome) → StopsAccepted cluster plan n marks before after r → Stops reserve cluster plan n marks before after r
-  unfolding buffer_of
-  stops-accepted n marks before after r s = record { is = s.is ∙ sym (accepted-is reserve cluster plan n marks (length before) a); buffer = s.buffer ∙ go r s.is }
-    where
-      go : (o : Outcome) → o ≡ accepted_stop cluster plan n marks (length before) →
-          buffer_of o (updated cluster (array_stopped cluster plan (n - 1) marks)) before ≡ buffer_of o (stopped_record cluster plan n marks) before
-      go (Refused f) q = refl
-      go (Done k) q =
-          let t = tested-done (length cluster) k (marked (steps_of plan) n marks) (marks_ok marks) (ltb (length before) (length cluster)) (sym (opened reserve cluster plan n marks (length before)) ∙ sym q) in
-          ap (written before 0) (record_is cluster plan marks n cluster-whole own-names t.0)
+-- behind the checker: 20 and 21, then what is put
+module _ (reserve : ℕ) (cluster plan : List ℕ) (accepts : Accepts reserve cluster plan) (n : ℕ) (marks before : List ℕ)
+    (found : Result (List ℕ) StopFault) (g : found ≡ stopped_places (room_at reserve cluster) (steps_of plan) n marks) where
+  array : List ℕ
+  array = array_stopped (room_at reserve cluster) (steps_of plan) n marks
 
--- as the call has it
-pub stops-on : (reserve : ℕ) (cluster plan : List ℕ) (v : Verdict) (n : ℕ) (marks before after : List ℕ) (r : Outcome) (cost : ℕ) → v ≡ verdict_of reserve cluster plan →
-    v ≡ Verdict.Accepted cost → StopsAccepted cluster plan n marks before after r → Stops reserve cluster plan n marks before after r
-stops-on reserve cluster plan v n marks before after r cost e q s = stops-accepted reserve cluster plan (cost, sym e ∙ q) n marks before after r s
+  tests-of : (a b : Bool) → Result (List ℕ) StopFault
+  tests-of a b = pick (not a) (Err NoStep) (pick (not b) (Err BadMark) (Ok array))
+
+  found-is : found ≡ tests-of (marked (steps_of plan) n marks) (marks_ok marks)
+  unfolding stopped_places tests-of array
+  found-is = g
+
+  pub stops-fault : (fault : StopFault) → found ≡ Err fault → Stops reserve cluster plan n marks before before (Refused fault)
+  unfolding buffer_of tests-of
+  stops-fault fault q = record { is = go (marked (steps_of plan) n marks) (marks_ok marks) refl refl (sym found-is ∙ q); buffer = refl }
+    where
+      go : (a b : Bool) → marked (steps_of plan) n marks ≡ a → marks_ok marks ≡ b → tests-of a b ≡ Err fault → Refused fault ≡ stop_of reserve cluster plan n marks (length before)
+      go false b h k x =
+          let same : NoStep ≡ fault = cc in
+          ap Refused (sym same) ∙ sym (at-tests reserve cluster plan n marks (length before) false b (ltb (length before) (length cluster)) accepts h k refl)
+      go true false h k x =
+          let same : BadMark ≡ fault = cc in
+          ap Refused (sym same) ∙ sym (at-tests reserve cluster plan n marks (length before) true false (ltb (length before) (length cluster)) accepts h k refl)
+      go true true h k x = absurd (cc)
+
+  module _ (places : List ℕ) (q : found ≡ Ok places) where
+    passed-tests : (marked (steps_of plan) n marks ≡ true) × (marks_ok marks ≡ true) × (places ≡ array)
+    unfolding tests-of
+    passed-tests = go (marked (steps_of plan) n marks) (marks_ok marks) refl refl (sym found-is ∙ q)
+      where
+        go : (a b : Bool) → marked (steps_of plan) n marks ≡ a → marks_ok marks ≡ b → tests-of a b ≡ Ok places → (a ≡ true) × (b ≡ true) × (places ≡ array)
+        go false b h k x = absurd (cc)
+        go true false h k x = absurd (cc)
+        go true true h k x = (refl, refl, cc)
+
+    pub stops-put : (after : List ℕ) (r : Result ℕ StopFault) → Puts cluster places before after r → AreBytes cluster → Stops reserve cluster plan n marks before after (as_outcome r)
+    unfolding array
+    stops-put after r p b = record {
+      is =
+          ap as_outcome p.is ∙ sized (ltb (length before) (length cluster)) ∙
+          sym (at-tests reserve cluster plan n marks (length before) true true (ltb (length before) (length cluster)) accepts passed-tests.0 passed-tests.1 refl);
+      buffer =
+          p.buffer ∙
+          ap (λ (l : List ℕ). buffer_of (as_outcome r) l before)
+          (ap (updated cluster) passed-tests.2 ∙
+          record_is reserve cluster plan marks n (cluster-whole reserve cluster plan accepts) (names reserve cluster plan accepts) passed-tests.0);
+    }
+      where
+        sized : (c : Bool) → as_outcome (pick c (Err Buffer) (Ok (length cluster))) ≡ tested (length cluster) true true c
+        sized true = refl
+        sized false = refl
 
 -- ---- what holds of the record written
 
@@ -216,17 +260,13 @@ module _ (reserve : ℕ) (cluster plan : List ℕ) (b : AreBytes cluster) (a : A
   good : SaysGood (packed (verdict_of reserve cluster plan))
   good = accepted-says (packed (verdict_of reserve cluster plan)) (verdict_of reserve cluster plan) a.0 checks.told a.1
 
-  whole : cluster_check cluster ≡ ClusterCheck.Whole
+  whole : cluster_check cluster ≡ Ok tt
   whole = cluster-whole reserve cluster plan a
 
   abbrev places : Placement
   places = stopped_at (room_of cluster) (steps_of plan) n marks
 
-  -- the placement is the same at every reserve, and has a place for each VM
-  places-at : stopped_at (room_at reserve cluster) (steps_of plan) n marks ≡ places
-  unfolding stopped_at
-  places-at = rw (current-same reserve (room_of cluster))
-
+  -- the placement has a place for each VM
   places-long : length places ≡ length (room_at reserve cluster).vms
   unfolding stopped_at at_reserve
   places-long = after-length _ (ended_moves (numbered (steps_of plan) n) marks) ∙ after-all-length (current_of (room_of cluster)) (take (n - 1) (steps_of plan)) ∙ current-length (room_of cluster)
@@ -243,7 +283,7 @@ module _ (reserve : ℕ) (cluster plan : List ℕ) (b : AreBytes cluster) (a : A
     left_is = ap (at_reserve reserve) room-is ∙ placed-reserve places (room_of cluster) reserve
 
     currents-are : current_of (room_at reserve bytes) ≡ stopped_at (room_at reserve cluster) (steps_of plan) n marks
-    currents-are = ap current_of left_is ∙ placed-currents places (room_at reserve cluster) places-long ∙ sym places-at
+    currents-are = ap current_of left_is ∙ placed-currents places (room_at reserve cluster) places-long ∙ sym (places-at reserve cluster marks (steps_of plan) n)
 
     rest-is : as_placed (room_at reserve bytes) ≡ at_rest (room_at reserve cluster) (stopped_at (room_at reserve cluster) (steps_of plan) n marks)
     rest-is =
@@ -264,9 +304,9 @@ module _ (reserve : ℕ) (cluster plan : List ℕ) (b : AreBytes cluster) (a : A
 
     stopped-well : StoppedWell reserve cluster plan n marks bytes (room_at reserve cluster) (room_at reserve bytes)
     stopped-well =
-        let first = marked-first plan marks n m in
-        let last = marked-last plan marks n m in
-        let each = marked-each plan marks n m in
+        let first = marked-first (steps_of plan) marks n m in
+        let last = marked-last (steps_of plan) marks n m in
+        let each = marked-each (steps_of plan) marks n m in
         let name = names reserve cluster plan a in
         let few : length (room_at reserve cluster).nodes ≤ 64 = rw (room-nodes reserve cluster) (nodes-most cluster whole) in
         record {
@@ -285,7 +325,7 @@ module _ (reserve : ℕ) (cluster plan : List ℕ) (b : AreBytes cluster) (a : A
           some-stop = some-stop (room_at reserve cluster) (steps_of plan) n marks;
           again = record {
             reserve-taken = (checks.only good).0.taken.reserve-taken;
-            cluster-whole = ap cluster_check bytes-are ∙ updated-whole cluster places whole (stopped-known cluster plan marks n whole (own-names reserve cluster plan a) m);
+            cluster-whole = ap cluster_check bytes-are ∙ updated-whole cluster places whole (stopped-known cluster marks (steps_of plan) n whole (own-names reserve cluster plan a) m);
             target-good = ap target_check left_is ∙ placed-check places (room_at reserve cluster) ∙ (checks.only good).0.taken.target-good;
           };
         }
@@ -331,11 +371,11 @@ module _ (reserve : ℕ) (cluster plan : List ℕ) (n : ℕ) (marks before after
       (λ x.
           let w = tests (Refused NoStep) own-no-step (says-no-step r outcome told x) in
           let t = tested-no-step (length cluster) (marked (steps_of plan) n marks) (marks_ok marks) (ltb (length before) (length cluster)) w.1 in
-          (w.0, λ y. false≢true (sym t ∙ marked-true plan marks n y))),
+          (w.0, λ y. false≢true (sym t ∙ marked-true (steps_of plan) marks n y))),
       (λ x.
           refused_says r outcome NoStep told
           (at-tests reserve cluster plan n marks (length before) false (marks_ok marks) (ltb (length before) (length cluster)) x.0
-          (decided (marked (steps_of plan) n marks) (λ y. x.1 (step-marked plan marks n y))) refl refl)),
+          (decided (marked (steps_of plan) n marks) (λ y. x.1 (step-marked (steps_of plan) marks n y))) refl refl)),
     )
 
     bad-mark-is : SaysRefused r 21 0 ↔ (Accepts reserve cluster plan × StepMarked (steps_of plan) n marks × (i : ℕ) × (i < length marks) × (1 < get_or marks i 0))
@@ -344,10 +384,10 @@ module _ (reserve : ℕ) (cluster plan : List ℕ) (n : ℕ) (marks before after
           let w = tests (Refused BadMark) own-bad-mark (says-bad-mark r outcome told x) in
           let t = tested-bad-mark (length cluster) (marked (steps_of plan) n marks) (marks_ok marks) (ltb (length before) (length cluster)) w.1 in
           let m = marks-false marks t.1 in
-          (w.0, step-marked plan marks n t.0, m.0, m.1, m.2)),
+          (w.0, step-marked (steps_of plan) marks n t.0, m.0, m.1, m.2)),
       (λ x.
           refused_says r outcome BadMark told
-          (at-tests reserve cluster plan n marks (length before) true false (ltb (length before) (length cluster)) x.0 (marked-true plan marks n x.1)
+          (at-tests reserve cluster plan n marks (length before) true false (ltb (length before) (length cluster)) x.0 (marked-true (steps_of plan) marks n x.1)
           (decided (marks_ok marks) (λ y. let h = marks-known marks y x.2 x.3 in let k = x.4 in omega arith)) refl)),
     )
 
@@ -356,10 +396,10 @@ module _ (reserve : ℕ) (cluster plan : List ℕ) (n : ℕ) (marks before after
       (λ x.
           let w = tests (Refused Buffer) own-short (says-short r outcome told x) in
           let t = tested-short (length cluster) (marked (steps_of plan) n marks) (marks_ok marks) (ltb (length before) (length cluster)) w.1 in
-          (w.0, step-marked plan marks n t.0, marks-known marks t.1, ltb-true (length before) (length cluster) t.2)),
+          (w.0, step-marked (steps_of plan) marks n t.0, marks-known marks t.1, ltb-true (length before) (length cluster) t.2)),
       (λ x.
           refused_says r outcome Buffer told
-          (at-tests reserve cluster plan n marks (length before) true true true x.0 (marked-true plan marks n x.1) (marks-true marks x.2)
+          (at-tests reserve cluster plan n marks (length before) true true true x.0 (marked-true (steps_of plan) marks n x.1) (marks-true marks x.2)
           (lt-ltb (length before) (length cluster) x.3))),
     )
 
@@ -371,10 +411,10 @@ module _ (reserve : ℕ) (cluster plan : List ℕ) (n : ℕ) (marks before after
 
     stopped-is : SaysGood r ↔ (Accepts reserve cluster plan × StepMarked (steps_of plan) n marks × MarksKnown marks × (length cluster ≤ length before))
     stopped-is = (
-      (λ g. let t = done-tests g in (t.0, step-marked plan marks n t.1, marks-known marks t.2, ltb-false (length before) (length cluster) t.3)),
+      (λ g. let t = done-tests g in (t.0, step-marked (steps_of plan) marks n t.1, marks-known marks t.2, ltb-false (length before) (length cluster) t.3)),
       (λ x.
           done-says r outcome (length cluster) told
-          (at-tests reserve cluster plan n marks (length before) true true false x.0 (marked-true plan marks n x.1) (marks-true marks x.2)
+          (at-tests reserve cluster plan n marks (length before) true true false x.0 (marked-true (steps_of plan) marks n x.1) (marks-true marks x.2)
           (le-ltb (length before) (length cluster) x.3))),
     )
 

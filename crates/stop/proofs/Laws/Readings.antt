@@ -13,7 +13,7 @@ use Rattle.rules.specs.Moments.{Placement, current_of, target_of, after, within,
 use Rattle.rules.specs.Orders.{spreads, some, mates, meets_mate}
 use Rattle.rules.specs.Rules.{keeps_from, allowed, from, fits_all, keeps, target_check, aims, named, is_place, sourced, permitted, fitting, unmet, has_move, respects, in_turn, step_check}
 use Rattle.rules.specs.Cost.{memory_of, step_cost, cost_from, cost_of}
-use Rattle.rules.specs.Verdict.{home, on_reserve, on_cluster, on_target, on_plan, on_step, steps_verdict, plan_verdict, verdict_of}
+use Rattle.rules.specs.Verdict.{home, on_reserve, on_check, steps_verdict, plan_verdict, verdict_of}
 use Rattle.rules.specs.Returned.{told_outcome, told_number, told_step, told_cost, SaysGood, SaysRefused}
 use Rattle.rules.specs.Promises.{after_all}
 use Rattle.rules.proofs.Laws.Readings.{vm, node, swap, both_moves, turnover, shutdown, launch, one_move}
@@ -102,7 +102,7 @@ pub record ToldApart : Type 0 where
   pub checked-first : SaysRefused (returns plan_both 0 (2 ∷ []) 0) 17 1
 
 pub told-apart : ToldApart
-unfolding swap both_moves three aside one_move turnover shutdown launch cluster_a plan_a plan_both returns numbered ended_moves stopped_at stopped_ended stopped_home ended_by_vm stopped_by_vm stopped_other stopped_record marked marks_ok accepted_stop on_verdict stop_of after_all updated_to updated all sum_of be16 be24 be32 on_node node_of vm_of usable usable_node at_reserve vms_of rows node_row vm_row part_at parts_from parts_end parts_of constraint_of room_of knows_nowhere counts_ok place_ok vm_ok well_formed cluster_check known_version names_sources move_width source_at move_at step_at steps_from steps_end steps_of move_total sized shaped plan_check current_of target_of after within bears bears_at counts_on tally_at phase_of cells_from first_moment begun all_running spreads some mates meets_mate keeps_from allowed from fits_all keeps target_check aims named is_place sourced permitted fitting unmet has_move respects in_turn step_check memory_of step_cost cost_from cost_of home on_reserve on_cluster on_target on_plan on_step steps_verdict plan_verdict verdict_of told_outcome told_number told_step told_cost
+unfolding swap both_moves three aside one_move turnover shutdown launch cluster_a plan_a plan_both returns numbered ended_moves stopped_at stopped_ended stopped_home ended_by_vm stopped_by_vm stopped_other stopped_record marked marks_ok accepted_stop on_verdict stop_of after_all updated_to updated all sum_of be16 be24 be32 on_node node_of vm_of usable usable_node at_reserve vms_of rows node_row vm_row part_at parts_from parts_end parts_of constraint_of room_of knows_nowhere counts_ok place_ok vm_ok well_formed cluster_check known_version names_sources move_width source_at move_at step_at steps_from steps_end steps_of move_total sized shaped plan_check current_of target_of after within bears bears_at counts_on tally_at phase_of cells_from first_moment begun all_running spreads some mates meets_mate keeps_from allowed from fits_all keeps target_check aims named is_place sourced permitted fitting unmet has_move respects in_turn step_check memory_of step_cost cost_from cost_of home on_reserve on_check steps_verdict plan_verdict verdict_of told_outcome told_number told_step told_cost
 told-apart = record {
   first_ended = refl;
   second_ended = refl;

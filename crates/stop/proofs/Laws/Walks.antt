@@ -1,182 +1,131 @@
 -- Laws on the walk to the stopped step, on its marks, and on the places that they leave.
 use Prim.Native.Nat.{ℕ, zero, suc, ◌+◌, ◌-◌, ◌≤◌, ◌<◌}
-use mathlib.Core.Bool.{Bool, true, false, ◌&&◌}
+use mathlib.Core.Bool.{Bool, true, false, not}
 use mathlib.Core.List.{List, [], ◌∷◌}
+use mathlib.Core.Logic.{◌⊎◌, inl, inr}
 use mathlib.Core.Path.{◌≡◌, refl, sym, ap, ◌∙◌}
-use native.Mathlib.Numerals.{add-one}
 use native.Mathlib.Omega.{arith}
-use lib.ListN.{length, get_or, set, take, drop, drop_of_length-le}
-use lib.Seq.{drop-cons, set-get_or}
+use lib.ListN.{length, get_or, take}
 use lib.Dec.{leb, eqb}
-use borrow.Author.Tests.{le-leb, lt-leb, eq-eqb, ne_eqb}
+use borrow.Author.Tests.{le-leb, lt-leb, eq-eqb, ne_eqb, eqb-true, eqb-false}
+use Rattle.std.specs.Prelude.{Option, Some, None, Ok, Err}
+use Rattle.std.specs.Bool.{then_some}
+use Rattle.std.specs.List.{list_all, slice_get}
 use Rattle.records.specs.Base.{pick, all}
-use Rattle.records.specs.Room.{room_of}
-use Rattle.records.specs.Plan.{Move, Step, move_of, step_count, move_count, step_at, step_end, steps_from, steps_end, steps_of, plan_check}
-use Rattle.records.specs.declared.faults.PlanCheck.{PlanCheck}
-use Rattle.records.proofs.Laws.Steps.{step-length, steps-length, steps-start, steps_next, step-within}
+use Rattle.records.specs.Room.{Room}
+use Rattle.records.specs.Plan.{Step}
 use Rattle.rules.specs.Moments.{current_of, after}
 use Rattle.rules.specs.Promises.{after_all}
 use Rattle.rules.specs.Inner.{array_of}
-use Rattle.rules.proofs.Laws.Places.{step-cons}
 use Rattle.stop.specs.Stops.{numbered, ended_moves, marked, marks_ok}
-use Rattle.stop.specs.Inner.{array_before, array_stopped, Placing}
+use Rattle.stop.specs.Inner.{marked_step, array_stopped, stopped_places}
+use Rattle.stop.specs.declared.outcome.StopFault.TheVariants.{NoStep, BadMark}
 
--- ---- the walk
+-- ---- the steps before
 
-pub placing-start : (plan : List ℕ) (n : ℕ) → plan_check plan ≡ PlanCheck.Whole → n < step_count plan → Placing plan n 7 n
-placing-start plan n w h =
-    let e : n + (step_count plan - n) ≡ step_count plan = omega arith in
-    record { few = omega arith; below = h; steps = rw e (steps-start plan w); ends = refl }
+pub before_more : (places next result : List ℕ) (n k : ℕ) (step : Step) (steps rest : List Step) → steps ≡ step ∷ rest → k + 1 ≡ n → next ≡ after places step →
+    after_all places (take n steps) ≡ result → after_all next (take k rest) ≡ result
+unfolding after_all
+before_more places next result n k step steps rest e m f inv = let z : n ≡ suc k = omega arith in rw f (rw (e, z) at inv)
 
-ends-suc : (plan : List ℕ) (at left : ℕ) → 0 < left → steps_end plan at left ≡ steps_end plan (step_end plan at) (left - 1)
-unfolding steps_end
-ends-suc plan at left z = let e : left ≡ suc (left - 1) = omega arith in ap (steps_end plan at) e ∙ opened (left - 1)
-  where
-    opened : (k : ℕ) → steps_end plan at (suc k) ≡ steps_end plan (step_end plan at) k
-    opened k = refl
-
-module _ (plan : List ℕ) (n at left : ℕ) (p : Placing plan n at left) where
-  module _ (z : 0 < left) where
-    there : 0 < left + (step_count plan - n)
-    there = omega arith
-
-    pub placing-within : step_end plan at ≤ length plan
-    placing-within = step-within plan at (left + (step_count plan - n)) p.steps there
-
-    pub placing-more : (end : ℕ) → end ≡ step_end plan at → Placing plan n end (left - 1)
-    placing-more end e =
-        let f = p.few in
-        let k : left + (step_count plan - n) - 1 ≡ left - 1 + (step_count plan - n) = omega arith in
-        record {
-          few = omega arith;
-          below = p.below;
-          steps = rw (e, ← k) (steps_next plan at (left + (step_count plan - n)) p.steps there);
-          ends = rw e (sym (ends-suc plan at left z) ∙ p.ends);
-        }
-
-  module _ (z : left ≤ 0) where
-    none : left ≡ 0
-    none = omega arith
-
-    pub placing-end : at ≡ steps_end plan 7 n
-    unfolding steps_end
-    placing-end = rw none at p.ends
-
-    pub placing-last : step_end plan at ≤ length plan
-    placing-last = let b = p.below in step-within plan at (left + (step_count plan - n)) p.steps (omega arith)
-
--- ---- the places behind the steps before
-
-module _ (plan : List ℕ) (places result : List ℕ) (at left : ℕ) where
-  pub before_more : (next : List ℕ) (end : ℕ) → next ≡ after places (step_at plan at) → end ≡ step_end plan at →
-      after_all places (steps_from plan at left) ≡ result → 0 < left → after_all next (steps_from plan end (left - 1)) ≡ result
-  unfolding steps_from after_all
-  before_more next end e f inv z = let k : left ≡ suc (left - 1) = omega arith in rw (e, f) (opened (left - 1) (rw k at inv))
-    where
-      opened : (m : ℕ) → after_all places (steps_from plan at (suc m)) ≡ result → after_all (after places (step_at plan at)) (steps_from plan (step_end plan at) m) ≡ result
-      opened m i = i
-
-  pub before-end : after_all places (steps_from plan at left) ≡ result → left ≤ 0 → places ≡ result
-  unfolding steps_from after_all
-  before-end inv z = let k : left ≡ 0 = omega arith in rw k at inv
-
-pub before-start : (cluster plan places : List ℕ) (n : ℕ) → places ≡ array_of (current_of (room_of cluster)) → after_all places (steps_from plan 7 n) ≡ array_before cluster plan n
-unfolding array_before
-before-start cluster plan places n e = rw e
+pub before-end : (places result : List ℕ) (n : ℕ) (steps : List Step) → (0 < n → steps ≡ []) → after_all places (take n steps) ≡ result → places ≡ result
+unfolding after_all
+before-end places result zero steps h inv = inv
+before-end places result (suc n) steps h inv = rw (h (omega arith)) at inv
 
 -- ---- the marked moves
 
-module _ (mark here there : ℕ) where
-  pub left_ended : mark ≡ 1 → there ≡ pick (eqb mark 1) there here
-  left_ended e = rw (eq-eqb mark 1 e)
+-- no move is left, or no mark
+ended-none : (step : Step) (marks : List ℕ) → (step ≡ []) ⊎ (length marks ≡ 0) → ended_moves step marks ≡ []
+unfolding ended_moves
+ended-none [] marks h = refl
+ended-none (move ∷ moves) [] h = refl
+ended-none (move ∷ moves) (mark ∷ marks) (inl e) = absurd (cc)
+ended-none (move ∷ moves) (mark ∷ marks) (inr e) = absurd (omega arith)
 
-  pub left-stayed : (mark ≡ 1 → ⊥) → here ≡ pick (eqb mark 1) there here
-  left-stayed e = rw (ne_eqb mark 1 e)
-
-module _ (plan next marks result : List ℕ) (at i n : ℕ) where
-  pub marked_more : (v d x : ℕ) → v ≡ (move_of (step_at plan at) i).vm → d ≡ (move_of (step_at plan at) i).to → x ≡ pick (eqb (get_or marks i 0) 1) d (get_or next v 0) →
-      n ≡ move_count plan at → length marks ≡ move_count plan at → after next (ended_moves (drop i (step_at plan at)) (drop i marks)) ≡ result → i < n →
-      after (set next v x) (ended_moves (drop (i + 1) (step_at plan at)) (drop (i + 1) marks)) ≡ result
-  unfolding ended_moves after
-  marked_more v d x e f g q l inv h =
-      let k : i < move_count plan at = omega arith in
-      let m : drop i marks ≡ get_or marks i 0 ∷ drop (suc i) marks = drop-cons marks i 0 (omega arith) in
-      rw (add-one, g, e, f) (go (get_or marks i 0) (drop (suc i) marks) (move_of (step_at plan at) i) (drop (suc i) (step_at plan at)) (rw (step-cons plan at i k, m) at inv))
-    where
-      go : (mark : ℕ) (rest : List ℕ) (move : Move) (moves : Step) → after next (ended_moves (move ∷ moves) (mark ∷ rest)) ≡ result →
-          after (set next move.vm (pick (eqb mark 1) move.to (get_or next move.vm 0))) (ended_moves moves rest) ≡ result
-      go mark rest move moves = either (eqb mark 1)
-        where
-          either : (b : Bool) → after next (pick b (move ∷ ended_moves moves rest) (ended_moves moves rest)) ≡ result →
-              after (set next move.vm (pick b move.to (get_or next move.vm 0))) (ended_moves moves rest) ≡ result
-          either true i = i
-          either false i = rw (set-get_or next move.vm 0) i
-
-  pub marked-end : n ≡ move_count plan at → after next (ended_moves (drop i (step_at plan at)) (drop i marks)) ≡ result → n ≤ i → next ≡ result
-  unfolding ended_moves after
-  marked-end q inv h =
-      let k : length (step_at plan at) ≤ i = rw (step-length plan at) (omega arith) in
-      rw (drop_of_length-le (step_at plan at) k) at inv
-
-pub stopped-is : (cluster plan marks before r : List ℕ) (n at : ℕ) → before ≡ array_before cluster plan n → at ≡ steps_end plan 7 n →
-    r ≡ after before (ended_moves (step_at plan at) marks) → r ≡ array_stopped cluster plan n marks
-unfolding array_stopped
-stopped-is cluster plan marks before r n at e f g = rw (← e, ← f) g
-
-pub moves-there : (plan marks : List ℕ) (n at : ℕ) → at ≡ steps_end plan 7 n → length marks ≡ move_count plan (steps_end plan 7 n) → length marks ≡ move_count plan at
-moves-there plan marks n at e h = rw e h
-
--- ---- the steps, by their places
-
-pub step-at : (plan : List ℕ) (at count n : ℕ) → n < count → get_or (steps_from plan at count) n [] ≡ step_at plan (steps_end plan at n)
-unfolding steps_from steps_end
-step-at plan at zero n h = absurd (omega arith)
-step-at plan at (suc count) zero h = refl
-step-at plan at (suc count) (suc n) h = step-at plan (step_end plan at) count n (omega arith)
-
-pub steps-taken : (plan : List ℕ) (at count n : ℕ) → n ≤ count → take n (steps_from plan at count) ≡ steps_from plan at n
-unfolding steps_from
-steps-taken plan at count zero h = refl
-steps-taken plan at zero (suc n) h = absurd (omega arith)
-steps-taken plan at (suc count) (suc n) h = ap (λ (l : List Step). step_at plan at ∷ l) (steps-taken plan (step_end plan at) count n (omega arith))
+pub marked-end : (places result : List ℕ) (step : Step) (marks : List ℕ) → after places (ended_moves step marks) ≡ result → (step ≡ []) ⊎ (length marks ≡ 0) → places ≡ result
+unfolding after
+marked-end places result step marks inv h = rw (ended-none step marks h) at inv
 
 -- ---- 20
 
-module _ (plan marks : List ℕ) (step : ℕ) where
-  pub marked-zero : step < 1 → false ≡ marked (steps_of plan) step marks
-  unfolding marked
-  marked-zero h = rw (lt-leb 1 step h)
+step-there : (steps : List Step) (n : ℕ) (step : Step) → slice_get steps n ≡ Some step → (n < length steps) × (get_or steps n [] ≡ step)
+step-there [] n step e = absurd (cc)
+step-there (first ∷ steps) zero step e = (omega arith, cc)
+step-there (first ∷ steps) (suc n) step e = let r = step-there steps n step e in let h = r.0 in (omega arith, r.1)
 
-  module _ (count : ℕ) (e : count ≡ step_count plan) (a : 1 ≤ step) where
-    steps-are : length (steps_of plan) ≡ count
-    unfolding steps_of
-    steps-are = steps-length plan 7 (step_count plan) ∙ sym e
+step-past : (steps : List Step) (n : ℕ) → slice_get steps n ≡ None → length steps ≤ n
+step-past [] n e = omega arith
+step-past (first ∷ steps) zero e = absurd (cc)
+step-past (first ∷ steps) (suc n) e = let h = step-past steps n e in omega arith
 
-    pub marked-past : count < step → false ≡ marked (steps_of plan) step marks
-    unfolding marked
-    marked-past h = rw (le-leb 1 step a, steps-are, lt-leb step count h)
+module _ (steps : List Step) (n : ℕ) (marks : List ℕ) where
+  pub marked-past : slice_get steps n ≡ None → None ≡ marked_step steps (n + 1) marks
+  unfolding marked_step marked
+  marked-past e = let p = step-past steps n e in rw (le-leb 1 (n + 1) (omega arith), lt-leb (n + 1) (length steps) (omega arith))
 
-    pub marked-count : (at n : ℕ) → at ≡ steps_end plan 7 (step - 1) → n ≡ move_count plan at → step ≤ count →
-        eqb (length marks) n ≡ marked (steps_of plan) step marks
-    unfolding marked numbered steps_of
-    marked-count at n f g h =
-        let k : step - 1 < step_count plan = omega arith in
-        let l : length (steps_from plan 7 (step_count plan)) ≡ count = steps-length plan 7 (step_count plan) ∙ sym e in
-        rw (l, le-leb 1 step a, le-leb step count h, step-at plan 7 (step_count plan) (step - 1) k, step-length plan (steps_end plan 7 (step - 1)), g, f)
+  module _ (step : Step) (e : slice_get steps n ≡ Some step) where
+    numbered-is : numbered steps (n + 1) ≡ step
+    unfolding numbered
+    numbered-is = let q : n + 1 - 1 ≡ n = omega arith in ap (λ k. get_or steps k []) q ∙ (step-there steps n step e).1
+
+    marked-found : length step ≡ length marks → Some step ≡ marked_step steps (n + 1) marks
+    unfolding marked_step marked
+    marked-found l =
+        let h = (step-there steps n step e).0 in
+        rw (le-leb 1 (n + 1) (omega arith), le-leb (n + 1) (length steps) (omega arith), numbered-is, eq-eqb (length marks) (length step) (sym l))
+
+    marked-other : (length step ≡ length marks → ⊥) → None ≡ marked_step steps (n + 1) marks
+    unfolding marked_step marked
+    marked-other l =
+        let h = (step-there steps n step e).0 in
+        rw (le-leb 1 (n + 1) (omega arith), le-leb (n + 1) (length steps) (omega arith), numbered-is, ne_eqb (length marks) (length step) (λ q. l (sym q)))
+
+    pub marked-when : then_some (eqb (length step) (length marks)) step ≡ marked_step steps (n + 1) marks
+    marked-when = go (eqb (length step) (length marks)) refl
+      where
+        go : (b : Bool) → eqb (length step) (length marks) ≡ b → then_some b step ≡ marked_step steps (n + 1) marks
+        go true q = marked-found (eqb-true (length step) (length marks) q)
+        go false q = marked-other (eqb-false (length step) (length marks) q)
 
 -- ---- 21
 
-module _ (marks : List ℕ) (i : ℕ) (result : Bool) (inv : marks_ok (drop i marks) ≡ result) (h : i < length marks) where
-  marks-cons : (leb (get_or marks i 0) 1 && marks_ok (drop (suc i) marks)) ≡ result
-  unfolding marks_ok all
-  marks-cons = rw (drop-cons marks i 0 h) at inv
-
-  pub marks-not : 1 < get_or marks i 0 → false ≡ result
-  marks-not k = simp (lt-leb (get_or marks i 0) 1 k) at marks-cons
-
-  pub marks-more : get_or marks i 0 ≤ 1 → marks_ok (drop (i + 1) marks) ≡ result
-  marks-more k = rw add-one (simp (le-leb (get_or marks i 0) 1 k) at marks-cons)
-
-pub marks-end : (marks : List ℕ) (i : ℕ) (result : Bool) → marks_ok (drop i marks) ≡ result → length marks ≤ i → true ≡ result
+pub marks-are : (marks : List ℕ) → list_all (λ mark. leb mark 1) marks ≡ marks_ok marks
 unfolding marks_ok all
-marks-end marks i result inv h = rw (drop_of_length-le marks h) at inv
+marks-are [] = refl
+marks-are (mark ∷ marks) = rw (marks-are marks)
+
+-- ---- both, and the places
+
+pub places-zero : (room : Room) (steps : List Step) (number : ℕ) (marks : List ℕ) → number < 1 → Err NoStep ≡ stopped_places room steps number marks
+unfolding stopped_places marked
+places-zero room steps number marks h = rw (lt-leb 1 number h)
+
+module _ (room : Room) (steps : List Step) (number n : ℕ) (marks : List ℕ) (m : number ≡ n + 1) (found : Option Step) (e : found ≡ marked_step steps (n + 1) marks) where
+  pub places-no-step : found ≡ None → Err NoStep ≡ stopped_places room steps number marks
+  unfolding marked_step stopped_places
+  places-no-step f = rw m (go (marked steps (n + 1) marks) (sym e ∙ f))
+    where
+      go : (b : Bool) → pick b (Some (numbered steps (n + 1))) None ≡ None →
+          Err NoStep ≡ pick (not b) (Err NoStep) (pick (not (marks_ok marks)) (Err BadMark) (Ok (array_stopped room steps (n + 1) marks)))
+      go true q = absurd (cc)
+      go false q = refl
+
+  module _ (step : Step) (f : found ≡ Some step) where
+    step-marked : (marked steps number marks ≡ true) × (step ≡ numbered steps number)
+    unfolding marked_step
+    step-marked = rw m (go (marked steps (n + 1) marks) (sym f ∙ e))
+      where
+        go : (b : Bool) → Some step ≡ pick b (Some (numbered steps (n + 1))) None → (b ≡ true) × (step ≡ numbered steps (n + 1))
+        go true q = (refl, cc)
+        go false q = absurd (cc)
+
+    module _ (known : Bool) (k : known ≡ marks_ok marks) where
+      pub places-bad-mark : known ≡ false → Err BadMark ≡ stopped_places room steps number marks
+      unfolding stopped_places
+      places-bad-mark h = rw (step-marked.0, sym k ∙ h)
+
+      pub places-are : (before places : List ℕ) → known ≡ true → before ≡ after_all (array_of (current_of room)) (take n steps) →
+          places ≡ after before (ended_moves step marks) → Ok places ≡ stopped_places room steps number marks
+      unfolding stopped_places array_stopped
+      places-are before places h b p = let q : number - 1 ≡ n = omega arith in rw (step-marked.0, sym k ∙ h, p, b, step-marked.1, q)

@@ -1,11 +1,6 @@
 use mathlib.Core.Path.{◌≡◌}
-use Rattle.records.specs.Room.{constraints_start, constraint_count, parts_from}
-use Rattle.records.specs.Inner.{Parts}
 use Rattle.planner.specs.Inner.{paired_all}
 use Rattle.planner.proofs.mates.pair_table.Given as goal
 
-abbrev pub invariant-loop-left : goal.invariant-loop-left
-invariant-loop-left here = Parts here.cluster here.at here.left × (paired_all here.table (parts_from here.cluster here.at here.left) ≡ paired_all here.initial.table (parts_from here.cluster (constraints_start here.cluster) (constraint_count here.cluster)))
-
-abbrev pub decreases-loop-left : goal.decreases-loop-left
-decreases-loop-left here = here.left
+abbrev pub invariant-loop-constraint : goal.invariant-loop-constraint
+invariant-loop-constraint at = paired_all at.table at.constraint-iterator ≡ paired_all at.initial.table at.cluster.constraints

@@ -1,32 +1,33 @@
-use mathlib.Core.Path.{refl, sym}
+use mathlib.Core.Path.{refl, sym, ap, ◌∙◌}
+use Rattle.rules.specs.Cost.{cost_of}
 use Rattle.planner.proofs.Laws.Pairs.{blank-zeros}
 use Rattle.planner.proofs.Laws.Answers.{part_low, part_length, part-whole, answer-plan, answer-blocked}
 use Rattle.rules.proofs.Laws.Allow.{table-allows}
-use borrow.Author.Rules.{rules}
 use Rattle.planner.proofs.plan.planned.Goals as goal
 
 pub pair_table-requires : goal.pair_table-requires
-pair_table-requires c =
-    (search rules, blank-zeros 65536 refl)
+pair_table-requires c = blank-zeros 65536 refl
 
-pub write_steps-trail-requires : goal.write_steps-trail-requires
-write_steps-trail-requires c = search (rules, table-allows)
+pub invariant_of-tables : goal.invariant_of-tables
+invariant_of-tables c = record {
+  known = record { allowed = table-allows _ _ c.fill_allow_table.ensures c.pair_table.ensures.sound; paired = c.pair_table.ensures.pairs };
+}
 
-pub slice_bounds-plan_cost-end : goal.slice_bounds-plan_cost-end
-slice_bounds-plan_cost-end c =
-    let pre = c.requires in
-    part_low _ _ _ _ _ c.write_steps-trail.ensures pre.2 _ c.finish_plan.ensures
+pub slice_bounds-whole-end : goal.slice_bounds-whole-end
+slice_bounds-whole-end c = part_low _ _ _ _ c.write_steps-trail.ensures c.requires _ c.finish_record.ensures
 
-pub slice_bounds-plan_cost-end-2 : goal.slice_bounds-plan_cost-end-2
-slice_bounds-plan_cost-end-2 c =
-    let pre = c.requires in
-    sym (part_length _ _ _ _ _ c.write_steps-trail.ensures pre.2 _ c.finish_plan.ensures)
+pub slice_bounds-whole-end-2 : goal.slice_bounds-whole-end-2
+slice_bounds-whole-end-2 c = sym (part_length _ _ _ _ c.write_steps-trail.ensures c.requires _ c.finish_record.ensures)
 
-pub plan_cost-requires : goal.plan_cost-requires
-plan_cost-requires c = search (rules, part-whole)
+pub whole-plan-requires : goal.whole-plan-requires
+whole-plan-requires c = part-whole _ _ _ _ c.write_steps-trail.ensures c.requires _ c.finish_record.ensures
 
 pub returns-then-trail : goal.returns-then-trail
-returns-then-trail c = search (rules, answer-plan)
+returns-then-trail c =
+    let cost = c.plan_cost.ensures.cost ∙ ap (cost_of c.args.cluster.now) c.whole-plan.ensures in
+    answer-plan _ _ _ _ c.write_steps-trail.ensures c.requires _ c.finish_record.ensures _ cost c.if-trail.true
 
 pub returns-else-trail : goal.returns-else-trail
-returns-else-trail c = search (rules, answer-blocked)
+returns-else-trail c =
+    let cost = c.plan_cost.ensures.cost ∙ ap (cost_of c.args.cluster.now) c.whole-plan.ensures in
+    answer-blocked _ _ _ _ c.write_steps-trail.ensures c.requires _ c.finish_record.ensures _ cost c.if-trail.false

@@ -1,11 +1,10 @@
-use Rattle.records.specs.Room.{room_at}
 use Rattle.rules.specs.Inner.{held}
 use Rattle.planner.proofs.Laws.Budget.{budget}
 use Rattle.planner.proofs.Laws.Making.{Making}
 use Rattle.planner.proofs.steps.write_steps.Given as goal
 
 abbrev pub invariant-loop-dests : goal.invariant-loop-dests
-invariant-loop-dests at = Making at.reserve at.cluster at.initial.out at.out at.places at.end at.steps at.moves
+invariant-loop-dests at = Making at.tables.cluster.now at.initial.out at.out at.places at.end at.steps at.moves
 
 abbrev pub decreases-loop-dests : goal.decreases-loop-dests
-decreases-loop-dests at = budget (room_at at.reserve at.cluster) (held at.cluster at.places)
+decreases-loop-dests at = budget at.tables.cluster.now (held at.tables.cluster.now at.places)

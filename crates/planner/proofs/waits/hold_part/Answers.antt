@@ -1,29 +1,21 @@
-use Rattle.rules.proofs.Laws.Bound.{pair-kind, first_below, second_below}
-use Rattle.planner.proofs.Laws.Waits.{part-before, part-ban, part-fence, part-spread, part-latency}
-use borrow.Author.Rules.{rules}
+use mathlib.Core.Path.{refl, ◌∙◌}
+use Rattle.records.specs.Room.{second_of}
+use Rattle.planner.proofs.Laws.Waits.{pair-marked, pair_left, part-before, part-other, first-below}
 use borrow.Author.Rules.{rules}
 use Rattle.planner.proofs.waits.hold_part.Goals as goal
 
-pub first_vm-requires : goal.first_vm-requires
-first_vm-requires c = search (rules, pair-kind)
+pub target-requires : goal.target-requires
+target-requires c = first-below c.args.cluster.now _ _ _ c.requires c.kind.ensures c.in-Before.is (c.from-first.ensures ∙ c.first.ensures)
 
-pub second_vm-requires : goal.second_vm-requires
-second_vm-requires c = search (rules, pair-kind)
+pub returns-then-places-first : goal.returns-then-places-first
+returns-then-places-first c =
+    part-before _ _ _ _ _ _ _ _ c.kind.ensures (pair-marked _ _ _ _ _ _ c.target.ensures.target c.if-places-first.true)
+    (c.from-first.ensures ∙ c.first.ensures) (c.from.ensures ∙ c.second.ensures) c.in-Before.is
 
-pub hold_pair-requires : goal.hold_pair-requires
-hold_pair-requires c = search (rules, first_below, second_below)
+pub returns-else-places-first : goal.returns-else-places-first
+returns-else-places-first c =
+    part-before _ _ _ _ _ _ _ _ c.kind.ensures (pair_left _ _ _ _ (second_of c.args.constraint.now) _ c.target.ensures.target c.if-places-first.false)
+    (c.from-first.ensures ∙ c.first.ensures) refl c.in-Before.is
 
-pub returns-in-Before : goal.returns-in-Before
-returns-in-Before c = search (rules, part-before)
-
-pub returns-in-Ban : goal.returns-in-Ban
-returns-in-Ban c = search (rules, part-ban)
-
-pub returns-in-Fence : goal.returns-in-Fence
-returns-in-Fence c = search (rules, part-fence)
-
-pub returns-in-Spread : goal.returns-in-Spread
-returns-in-Spread c = search (rules, part-spread)
-
-pub returns-in-Latency : goal.returns-in-Latency
-returns-in-Latency c = search (rules, part-latency)
+pub returns-in_default : goal.returns-in_default
+returns-in_default c = search (rules, part-other)

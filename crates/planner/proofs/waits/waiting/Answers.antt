@@ -1,25 +1,14 @@
-use borrow.Author.Rules.{rules}
-use borrow.Author.Rules.{rules}
-use Rattle.records.proofs.Laws.Parts.{parts_add}
-use Rattle.records.proofs.Laws.Walk.{walk-within, walk-filled, walk-ok, walk-next}
-use Rattle.rules.proofs.Laws.Allow.{walk_from}
-use Rattle.planner.proofs.Laws.Waits.{waits_start, waits-more, waits_end}
+use Rattle.planner.proofs.Laws.Waits.{waits-more, waits_end, ok-here, ok-later}
 use Rattle.planner.proofs.waits.waiting.Goals as goal
 
-pub loop-left-init : goal.loop-left-init
-loop-left-init c = search (rules, walk_from, waits_start)
-
-pub part-p-requires : goal.part-p-requires
-part-p-requires c = search (rules, walk-within)
-
 pub hold_part-requires : goal.hold_part-requires
-hold_part-requires c = search (rules, walk-filled, walk-ok)
+hold_part-requires c = ok-here _ _ _ _ _ c.in-Some.ensures.steps c.loop-constraint.invariant.in_range
 
-pub overflow_add-at : goal.overflow_add-at
-overflow_add-at c = search (rules, parts_add)
-
-pub loop-left-preserved : goal.loop-left-preserved
-loop-left-preserved c = search (rules, walk-next, waits-more)
+pub loop-constraint-preserved : goal.loop-constraint-preserved
+loop-constraint-preserved c = record {
+  rest = waits-more _ _ _ _ _ _ _ _ c.in-Some.ensures.steps c.hold_part.ensures c.loop-constraint.invariant.rest;
+  in_range = ok-later _ _ _ _ _ c.in-Some.ensures.steps c.loop-constraint.invariant.in_range;
+}
 
 pub returns : goal.returns
-returns c = search (rules, waits_end)
+returns c = record { marks = waits_end _ _ _ _ c.constraints-constraint-items.ensures.sound c.loop-constraint.invariant.rest c.in-None.ensures.steps.0; sound = c.constraints-constraint-items.ensures.sound }

@@ -1,12 +1,13 @@
+use mathlib.Core.Bool.{true, false}
 use mathlib.Core.Path.{◌≡◌}
-use lib.ListN.{replicate}
-use Rattle.records.specs.Room.{room_of, constraints_start, constraint_count, parts_from}
-use Rattle.records.specs.Inner.{Parts}
+use lib.ListN.{length, replicate}
+use Rattle.records.specs.Base.{all}
+use Rattle.records.specs.Room.{constraint_ok}
 use Rattle.planner.specs.Inner.{all_held}
 use Rattle.planner.proofs.waits.waiting.Given as goal
 
-abbrev pub invariant-loop-left : goal.invariant-loop-left
-invariant-loop-left here = Parts here.cluster here.at here.left × (all_held (room_of here.cluster) here.places here.marks (parts_from here.cluster here.at here.left) ≡ all_held (room_of here.cluster) here.places (replicate 256 0) (parts_from here.cluster (constraints_start here.cluster) (constraint_count here.cluster)))
-
-abbrev pub decreases-loop-left : goal.decreases-loop-left
-decreases-loop-left here = here.left
+abbrev pub invariant-loop-constraint : goal.invariant-loop-constraint
+invariant-loop-constraint at = record {
+  rest : all_held at.cluster at.places at.marks at.constraint-iterator ≡ all_held at.cluster at.places (replicate 256 false) at.cluster.constraints;
+  in_range : all (constraint_ok (length at.cluster.vms) (length at.cluster.nodes)) at.constraint-iterator ≡ true;
+}

@@ -18,11 +18,11 @@ unseen-requires c = search (rules, found_below)
 pub mark-requires : goal.mark-requires
 mark-requires c = search (rules, found_below)
 
-pub returns-in-Bad : goal.returns-in-Bad
-returns-in-Bad c = search (rules, group-bad)
+pub returns-in_err-end : goal.returns-in_err-end
+returns-in_err-end c = search (rules, group-bad)
 
-pub returns-then-unseen : goal.returns-then-unseen
-returns-then-unseen c = search (rules, group-new)
+pub returns : goal.returns
+returns c = group-new _ _ _ _ _ c.node_list.ensures _ _ c.in_ok-end.was c.unseen.ensures _ c.mark.ensures c.if-not-unseen.false
 
-pub returns-else-unseen : goal.returns-else-unseen
-returns-else-unseen c = search (rules, group-old)
+pub returns-then-not-unseen : goal.returns-then-not-unseen
+returns-then-not-unseen c = search (rules, group-old)

@@ -1,10 +1,6 @@
-use borrow.Author.Rules.{rules}
-use Rattle.records.proofs.Laws.Cluster.{whole_long, vms-most, whole-rows}
+use Rattle.records.proofs.Laws.Cluster.{vms-most, whole-rows}
 use native.Mathlib.Omega.{arith}
 use Rattle.records.proofs.room.vm_row.Goals as goal
-
-pub vms_start-requires : goal.vms_start-requires
-vms_start-requires c = search (rules, whole_long)
 
 pub overflow_mul-result : goal.overflow_mul-result
 overflow_mul-result c = omega (arith, vms-most)

@@ -1,23 +1,16 @@
-use borrow.Author.Rules.{rules}
-use Rattle.records.proofs.Laws.Parts.{parts_add}
-use Rattle.records.proofs.Laws.Walk.{walk-within, walk-filled, walk-next}
-use Rattle.rules.proofs.Laws.Allow.{walk_from, allow-from, walk-below, allow-more, allow-end}
+use Rattle.std.proofs.Common.{◌∙◌, ap}
+use mathlib.Core.List.{List}
+use lib.ListN.{replicate}
+use Rattle.records.specs.Room.{Constraint}
+use Rattle.rules.specs.Inner.{applied_all}
+use Rattle.rules.proofs.Laws.Allow.{allow-end}
 use Rattle.rules.proofs.allow.fill_allow_table.Goals as goal
 
-pub loop-left-init : goal.loop-left-init
-loop-left-init c = search (rules, walk_from, allow-from)
-
-pub part-p-requires : goal.part-p-requires
-part-p-requires c = search (rules, walk-within)
-
-pub apply-requires : goal.apply-requires
-apply-requires c = search (rules, walk-filled, walk-below)
-
-pub overflow_add-at : goal.overflow_add-at
-overflow_add-at c = search (rules, parts_add)
-
-pub loop-left-preserved : goal.loop-left-preserved
-loop-left-preserved c = search (rules, walk-next, allow-more)
+pub loop-constraint-init : goal.loop-constraint-init
+loop-constraint-init c =
+    ap (λ (ks : List Constraint). applied_all (replicate 16384 1) ks) (c.into_iter-constraint-iterator.ensures.into_iter_gives ∙ c.constraints-constraint-items.ensures.constraints)
 
 pub returns : goal.returns
-returns c = search (rules, allow-end)
+returns c =
+    allow-end c.args.cluster.now c.loop-constraint.table c.loop-constraint.constraint-iterator c.constraints-constraint-items.ensures.sound
+    c.loop-constraint.invariant c.in-None.ensures.steps.0

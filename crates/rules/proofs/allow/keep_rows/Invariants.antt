@@ -1,11 +1,7 @@
-use Prim.Native.Nat.{◌≤◌, ◌-◌}
 use mathlib.Core.Path.{◌≡◌}
-use lib.ListN.{length, drop}
+use lib.ListN.{drop}
 use Rattle.rules.specs.Inner.{list_kept}
 use Rattle.rules.proofs.allow.keep_rows.Given as goal
 
-abbrev pub invariant-loop-i : goal.invariant-loop-i
-invariant-loop-i at = (at.i ≤ length at.vms) × (list_kept at.table at.stop (drop at.i at.vms) ≡ list_kept at.initial.table at.stop at.vms)
-
-abbrev pub decreases-loop-i : goal.decreases-loop-i
-decreases-loop-i at = length at.vms - at.i
+abbrev pub invariant-loop-v : goal.invariant-loop-v
+invariant-loop-v l = list_kept l.table l.stop (drop l.v-index l.vms) ≡ list_kept l.initial.table l.stop l.vms

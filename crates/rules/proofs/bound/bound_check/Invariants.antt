@@ -1,14 +1,14 @@
-use mathlib.Core.Bool.{◌&&◌}
+use lib.ListN.{length}
+use mathlib.Core.Bool.{true, ◌&&◌}
 use mathlib.Core.Path.{◌≡◌}
 use Rattle.records.specs.Base.{all}
-use Rattle.records.specs.Room.{room_of}
-use Rattle.records.specs.Inner.{Parts}
+use Rattle.records.specs.Room.{constraint_ok}
 use Rattle.rules.specs.Inner.{spread_ok, turn_ok}
-use Rattle.rules.proofs.Laws.Bound.{left_of}
 use Rattle.rules.proofs.bound.bound_check.Given as goal
 
-abbrev pub invariant-loop-left : goal.invariant-loop-left
-invariant-loop-left here = Parts here.cluster here.at here.left × (left_of (spread_ok here.places here.dests) here.cluster here.at here.left ≡ all (spread_ok here.places here.dests) (room_of here.cluster).constraints) × ((here.in_turn && left_of (turn_ok (room_of here.cluster) here.places here.dests) here.cluster here.at here.left) ≡ all (turn_ok (room_of here.cluster) here.places here.dests) (room_of here.cluster).constraints)
-
-abbrev pub decreases-loop-left : goal.decreases-loop-left
-decreases-loop-left here = here.left
+abbrev pub invariant-loop-constraint : goal.invariant-loop-constraint
+invariant-loop-constraint l = record {
+  sound : all (constraint_ok (length l.cluster.vms) (length l.cluster.nodes)) l.constraint-iterator ≡ true;
+  apart : all (spread_ok l.places l.dests) l.constraint-iterator ≡ all (spread_ok l.places l.dests) l.cluster.constraints;
+  turns : (l.in_turn && all (turn_ok l.cluster l.places l.dests) l.constraint-iterator) ≡ all (turn_ok l.cluster l.places l.dests) l.cluster.constraints;
+}

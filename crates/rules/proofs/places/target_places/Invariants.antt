@@ -1,11 +1,6 @@
-use Prim.Native.Nat.{◌≤◌, ◌-◌}
-use Rattle.records.specs.Room.{room_of}
 use Rattle.rules.specs.Moments.{target_of}
 use Rattle.rules.specs.Inner.{Filling}
 use Rattle.rules.proofs.places.target_places.Given as goal
 
 abbrev pub invariant-loop-v : goal.invariant-loop-v
-invariant-loop-v at = (at.v ≤ at.n) × Filling at.places (target_of (room_of at.cluster)) at.v
-
-abbrev pub decreases-loop-v : goal.decreases-loop-v
-decreases-loop-v at = at.n - at.v
+invariant-loop-v l = Filling l.places (target_of l.cluster) l.v

@@ -1,11 +1,9 @@
-use borrow.Author.Rules.{rules}
-use Rattle.rules.specs.Inner.{list_unmet}
+use Rattle.std.proofs.Common.{◌∙◌, sym}
 use Rattle.rules.proofs.Laws.Mates.{list-still}
 use Rattle.rules.proofs.spread.list_unmet.Goals as goal
 
-pub returns-then-list_clear : goal.returns-then-list_clear
-returns-then-list_clear c = search (rules, list-still)
+pub returns-then-all_down : goal.returns-then-all_down
+returns-then-all_down c = list-still c.args.places.now c.args.dests.now c.args.vms.now (sym c.all_down.ensures ∙ c.if-all_down.true)
 
 pub returns : goal.returns
-unfolding list_unmet
 returns c = cc

@@ -1,31 +1,25 @@
-use borrow.Author.Rules.{rules}
-use Rattle.rules.proofs.Laws.Loads.{loaded-start, loaded-more, loaded-end, place-offset, light-memory, light-cpu, second-memory, second-cpu}
-use native.Mathlib.Omega.{arith}
+use Rattle.std.proofs.Common.{◌<◌, length, arith, rules}
+use Rattle.rules.proofs.Laws.Loads.{loaded-start, loaded-more, loaded-end, light-memory, light-cpu, second-memory, second-cpu}
 use Rattle.rules.proofs.step.loads.Goals as goal
 
-pub loop-left-init : goal.loop-left-init
-loop-left-init c = search (rules, loaded-start)
-
-pub offset_bounds-sums-d : goal.offset_bounds-sums-d
-offset_bounds-sums-d c = search (rules, place-offset)
+pub loop-v-init : goal.loop-v-init
+loop-v-init c = loaded-start _ _ _
 
 pub with-requires : goal.with-requires
 with-requires c = search (rules, light-memory, light-cpu)
 
-pub offset_bounds-sums-d-in-loop-left : goal.offset_bounds-sums-d-in-loop-left
-offset_bounds-sums-d-in-loop-left c = search (rules, place-offset)
+pub with-requires-in-loop-v : goal.with-requires-in-loop-v
+with-requires-in-loop-v c =
+    let h : c.loop-v.v < length c.args.cluster.now.vms = omega arith in
+    let q : c.from-to.result < 256 = omega arith in
+    search (rules, second-memory, second-cpu)
 
-pub offset_bounds-sums-p : goal.offset_bounds-sums-p
-offset_bounds-sums-p c = search (rules, place-offset)
-
-pub with-requires-in-loop-left : goal.with-requires-in-loop-left
-with-requires-in-loop-left c = search (rules, second-memory, second-cpu)
-
-pub offset_bounds-sums-p-in-loop-left : goal.offset_bounds-sums-p-in-loop-left
-offset_bounds-sums-p-in-loop-left c = search (rules, place-offset)
-
-pub loop-left-preserved : goal.loop-left-preserved
-loop-left-preserved c = (omega arith, search (rules, loaded-more))
+pub loop-v-preserved : goal.loop-v-preserved
+loop-v-preserved c =
+    let h : c.loop-v.v < length c.args.cluster.now.vms = omega arith in
+    let q : c.from-to.result < 256 = omega arith in
+    let p : c.from-place.result < 256 = omega arith in
+    loaded-more _ _ _ _ _ _ _ _ _ _ c.loop-v.invariant c.requires c.need_of-vm.ensures c.from-to.ensures c.from-place.ensures q p h c.with.ensures c.with-in-loop-v.ensures
 
 pub returns : goal.returns
 returns c = search (rules, loaded-end)

@@ -1,11 +1,7 @@
-use Prim.Native.Nat.{◌≤◌, ◌-◌}
 use mathlib.Core.Path.{◌≡◌}
-use lib.ListN.{length, drop}
+use lib.ListN.{drop}
 use Rattle.rules.specs.Inner.{clear_of}
 use Rattle.rules.proofs.wanted.list_clear.Given as goal
 
-abbrev pub invariant-loop-i : goal.invariant-loop-i
-invariant-loop-i at = (at.i ≤ length at.vms) × (clear_of at.stop at.places (drop at.i at.vms) ≡ clear_of at.stop at.places at.vms)
-
-abbrev pub decreases-loop-i : goal.decreases-loop-i
-decreases-loop-i at = length at.vms - at.i
+abbrev pub invariant-loop-v : goal.invariant-loop-v
+invariant-loop-v l = clear_of l.stop l.places (drop l.v-index l.vms) ≡ clear_of l.stop l.places l.vms

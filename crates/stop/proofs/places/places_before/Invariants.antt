@@ -1,11 +1,8 @@
 use mathlib.Core.Path.{◌≡◌}
-use Rattle.records.specs.Plan.{steps_from}
+use lib.ListN.{take}
+use Rattle.std.specs.Iterator.Adapters.{take_source, take_count}
 use Rattle.rules.specs.Promises.{after_all}
-use Rattle.stop.specs.Inner.{array_before, Placing}
 use Rattle.stop.proofs.places.places_before.Given as goal
 
-abbrev pub invariant-loop-left : goal.invariant-loop-left
-invariant-loop-left here = Placing here.plan here.n here.at here.left × (after_all here.places (steps_from here.plan here.at here.left) ≡ array_before here.cluster here.plan here.n)
-
-abbrev pub decreases-loop-left : goal.decreases-loop-left
-decreases-loop-left here = here.left
+abbrev pub invariant-loop-step : goal.invariant-loop-step
+invariant-loop-step l = after_all l.places (take (take_count l.step-iterator) (take_source l.step-iterator)) ≡ after_all l.initial.places (take l.n l.plan)

@@ -1,9 +1,6 @@
-use borrow.Author.Rules.{rules}
-use Rattle.stop.proofs.Laws.Walks.{marked_more, marked-end}
+use mathlib.Core.Logic.{inl, inr, ⊎_elim}
+use Rattle.stop.proofs.Laws.Walks.{marked-end}
 use Rattle.stop.proofs.places.places_marked.Goals as goal
 
-pub loop-i-preserved : goal.loop-i-preserved
-loop-i-preserved c = search (rules, marked_more)
-
 pub returns : goal.returns
-returns c = search (rules, marked-end)
+returns c = marked-end _ _ _ _ c.loop-ended.invariant (⊎_elim (λ p. inl p.1.0) (λ p. inr p.1.0) c.in-None.ensures.steps)

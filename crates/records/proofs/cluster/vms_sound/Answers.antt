@@ -1,6 +1,0 @@
-use Rattle.records.specs.Room.{room_of}
-use Rattle.records.proofs.cluster.vms_sound.Goals as goal
-
-pub returns : goal.returns
-unfolding room_of
-returns c = cc

@@ -1,9 +1,0 @@
-use borrow.Author.Rules.{rules}
-use Rattle.rules.proofs.Laws.Allow.{rows_more, rows_end}
-use Rattle.rules.proofs.allow.keep_rows.Goals as goal
-
-pub loop-i-preserved : goal.loop-i-preserved
-loop-i-preserved c = search (rules, rows_more)
-
-pub returns : goal.returns
-returns c = search (rules, rows_end)
