@@ -14,7 +14,7 @@ pub fn run<'a, R: Files + Input + Print>(
     reserve: u64,
     file: Option<&'a Argument>,
 ) -> Result<(), Trouble<'a>> {
-    let mut buffer = [0u8; 65536];
+    let mut buffer = [0u8; files::MOST_KEPT];
     let mut out = [0u8; planner::LEAST_BUFFER];
     let cluster = files::take_cluster(rt, &mut buffer)?;
     let (word, made) = match planner::answer_to(reserve, cluster, &mut out) {

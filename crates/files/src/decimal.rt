@@ -7,7 +7,7 @@ ghost use Rattle.files.specs.Number.{values_of, number_in};
 use std::str;
 
 // Larger numbers are told as this one.
-const LARGEST: u64 = 4294967296;
+const LARGEST: u64 = 1 << 32;
 
 // The number that a text is, if it is digits and nothing else.
 #[tactic(auto, using(crate::proofs::Laws::Numbers::readings))]
@@ -17,9 +17,7 @@ pub fn number_in(text: &[u8]) -> Option<u64>
     if text.is_empty() || !all_digits(text) {
         return None;
     }
-    let Ok(digits) = str::from_utf8(text) else {
-        return None;
-    };
+    let digits = str::from_utf8(text).ok()?;
     Some(digits.parse::<u64>().unwrap_or(LARGEST).min(LARGEST))
 }
 

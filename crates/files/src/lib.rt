@@ -25,11 +25,14 @@ use std::rt::Files;
 use std::{fs, io, str};
 pub use trouble::{Trouble, tell};
 
-// The first bytes of a file. A cluster record has at most 65,535: one more is too long, whatever follows it.
-pub type Buffer = [u8; 65536];
+// How many bytes of a file are kept. A cluster record has at most 65,535: one more is too long, whatever follows it.
+pub const MOST_KEPT: usize = 65536;
+
+// The first bytes of a file.
+pub type Buffer = [u8; MOST_KEPT];
 
 // Of a plan file the size matters up to what a record can state, which is one less.
-const MOST_COUNTED: u64 = 4294967296;
+const MOST_COUNTED: u64 = 1 << 32;
 
 // Reads the first bytes, as many as there are or as the buffer holds, and tells how many.
 fn fill<F: Read>(file: &mut F, buffer: &mut [u8]) -> io::Result<usize>
@@ -131,10 +134,11 @@ pub fn load<'a, 'b, R: Files>(
 pub fn record(buffer: &[u8]) -> &[u8]
     ensures { 7 ≤ length buffer.now → result.now ≡ front_of buffer.now }
 {
-    if 7 <= buffer.len() {
-        return front(buffer, records::stated_length(buffer));
+    if records::FIRST_STEP <= buffer.len() {
+        front(buffer, records::stated_length(buffer))
+    } else {
+        buffer
     }
-    buffer
 }
 
 // Brings a file's bytes to the disk. A file system that cannot be asked to is taken for one that has nothing left to do.

@@ -24,10 +24,9 @@ impl fmt::Display for Reason {
 }
 
 fn words(error: &str) -> &str {
-    match error.split_once(" (os error ") {
-        Some((words, _)) => words,
-        None => error,
-    }
+    error
+        .split_once(" (os error ")
+        .map_or(error, |(words, _)| words)
 }
 
 // Says that a program cannot do something to a file, and why.

@@ -1,5 +1,5 @@
 -- What inner functions answer, on the way to the definitions before. Nothing here has to be believed.
-use Rattle.std.specs.Prelude.{ℕ, zero, suc, ◌+◌, ◌*◌, ◌<◌, ◌≤◌, ◌^◌, Bool, true, false, not, ◌&&◌, List, [], ◌∷◌, ◌++◌, ◌≡◌, Option, Some, None, Result, Ok, Err, find, length, get_or, set, eqb}
+use Rattle.std.specs.Prelude.{ℕ, zero, suc, ◌+◌, ◌<◌, ◌≤◌, ◌^◌, Bool, true, false, not, ◌&&◌, List, [], ◌∷◌, ◌++◌, ◌≡◌, Option, Some, None, Result, Ok, Err, find, length, get_or, set, eqb}
 use Rattle.records.specs.Base.{pick, all}
 use Rattle.records.specs.Room.{Constraint, ban, fence, spread, latency, before, Room, vm_of, IsSound}
 use Rattle.records.specs.Plan.{Step, with_sources, move_total, steps_bytes, written, shaped}
@@ -20,37 +20,32 @@ use Rattle.planner.specs.declared.answer.BuildFault.{BuildFault}
 use Rattle.planner.specs.declared.answer.Answer.{Answer}
 use Rattle.planner.specs.declared.answer.Answer.TheVariants.{Plan, Blocked, Refused}
 
--- ---- pairs of VMs that one spread names, as a table of 256 marks a VM
+-- ---- pairs of VMs that one spread names, as a table of a row of 256 marks for each VM
 
--- VM v marked with each VM of a list
-unfoldable pub pair_row : List Bool → ℕ → List ℕ → List Bool
-pair_row table v [] = table
-pair_row table v (w ∷ ws) = pair_row (set table (v * 256 + w) true) v ws
+-- each VM of a list marked in a row
+abbrev pub pair_row : List Bool → List ℕ → List Bool
+pair_row row [] = row
+pair_row row (w ∷ ws) = pair_row (set row w true) ws
 
--- each of the last VMs marked with each of a list
-unfoldable pub pair_rows : List Bool → List ℕ → List ℕ → List Bool
+-- each VM of a list marked in the row of each of the last VMs
+abbrev pub pair_rows : List (List Bool) → List ℕ → List ℕ → List (List Bool)
 pair_rows table vms [] = table
-pair_rows table vms (v ∷ vs) = pair_rows (pair_row table v vms) vms vs
+pair_rows table vms (v ∷ vs) = pair_rows (set table v (pair_row (get_or table v []) vms)) vms vs
 
-unfoldable pub paired : List Bool → Constraint → List Bool
+unfoldable pub paired : List (List Bool) → Constraint → List (List Bool)
 paired table (ban vms nodes) = table
 paired table (fence vms nodes) = table
 paired table (spread vms) = pair_rows table vms vms
 paired table (latency vms groups) = table
 paired table (before first second) = table
 
-unfoldable pub paired_all : List Bool → List Constraint → List Bool
+unfoldable pub paired_all : List (List Bool) → List Constraint → List (List Bool)
 paired_all table [] = table
 paired_all table (k ∷ ks) = paired_all (paired table k) ks
 
--- a whole table with no mark
-pub record Blank (table : List Bool) : Type 0 where
-  pub size : length table ≡ 65536
-  pub each : (i : ℕ) → get_or table i false ≡ false
-
 -- the table tells which two VMs one spread names
-pub record Pairs (room : Room) (table : List Bool) : Type 0 where
-  pub each : (v w : ℕ) → v < length room.vms → w < length room.vms → get_or table (v * 256 + w) false ≡ some (spreads v w) room.constraints
+pub record Pairs (room : Room) (table : List (List Bool)) : Type 0 where
+  pub each : (v w : ℕ) → v < length room.vms → w < length room.vms → get_or (get_or table v []) w false ≡ some (spreads v w) room.constraints
 
 -- ---- who waits, as a mark a VM
 
@@ -86,11 +81,11 @@ pub record Waiting (room : Room) (places : List ℕ) (marks : List Bool) : Type 
 
 -- ---- what a call knows: the tables of a room; at a placement, its marks and its places besides
 
-pub record Tabled (room : Room) (allow : List ℕ) (pairs : List Bool) : Type 0 where
+pub record Tabled (room : Room) (allow pairs : List (List Bool)) : Type 0 where
   pub allowed : Allows room allow
   pub paired : Pairs room pairs
 
-pub record Known (room : Room) (allow : List ℕ) (pairs waits : List Bool) (places : List ℕ) : Type 0 where
+pub record Known (room : Room) (allow pairs : List (List Bool)) (waits : List Bool) (places : List ℕ) : Type 0 where
   pub sound : IsSound room
   pub allowed : Allows room allow
   pub paired : Pairs room pairs

@@ -84,6 +84,6 @@ pub fn pack(answer: Answer) -> u64
     match answer {
         Answer::Plan(made) => made.packed(),
         Answer::Blocked(made) => packing::BLOCKED + made.packed(),
-        Answer::Refused(fault) => packing::REFUSED + fault.number() * packing::NUMBER,
+        Answer::Refused(fault) => packing::refused(fault.number(), 0),
     }
 }

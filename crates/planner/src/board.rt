@@ -17,7 +17,8 @@ pub struct Tables<'a> {
     ghost known: { Tabled cluster.now allow.now pairs.now },
 }
 
-// What it knows at one: who waits and where the VMs are besides.
+// What it knows at one: who waits and where the VMs are besides. It has the fields of `Tables` itself: with a field `tables` each contract of
+// a turn would say `self.now.tables.now.cluster.now`.
 #[derive(Drop)]
 pub struct Board<'a> {
     pub cluster: &'a Cluster<'a>,

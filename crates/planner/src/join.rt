@@ -20,7 +20,7 @@ fn fits_with(cluster: &Cluster<'_>, here: Tally, v: usize, d: usize) -> bool
 
 impl Board<'_> {
     // Whether VM v may go to d beside the moves of an array of destinations, `here` being the tally of d with those moves running if d is a
-    // node. A VM that waits may go nowhere; to no node nothing else is asked.
+    // node. A VM that waits may go nowhere; to no node nothing else is asked. Returns in turn: as one expression the search for its proof gives up.
     pub fn may_join(&self, dests: &Destinations, here: Tally, v: usize, d: usize) -> bool
         requires vm { v < length self.now.cluster.now.vms }
         requires place { place_ok true (length self.now.cluster.now.nodes) d ≡ true }
@@ -33,7 +33,7 @@ impl Board<'_> {
         if NODES <= d {
             return true;
         }
-        if self.allow[v * NODES + d] == 0 || !fits_with(self.cluster, here, v, d) {
+        if !self.allow[v][d] || !fits_with(self.cluster, here, v, d) {
             return false;
         }
         !self.meets(dests, v, d)

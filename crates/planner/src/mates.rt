@@ -1,25 +1,23 @@
-// Which VMs are named by one spread, decided once for a call: a mark for each pair, 256 for each VM. And whether a VM meets a mate.
-ghost use Rattle.std.specs.Prelude.{◌≡◌, ◌||◌, ◌<◌, length, get_or, eqb};
+// Which VMs are named by one spread, decided once for a call: a mark for each pair. And whether a VM meets a mate.
+ghost use Rattle.std.specs.Prelude.{◌≡◌, false, ◌<◌, length, replicate};
 ghost use Rattle.records.specs.Room.{IsSound};
 ghost use Rattle.rules.specs.Inner.{busy_from};
 ghost use Rattle.rules.specs.Orders.{meets_mate};
-ghost use Rattle.planner.specs.Inner.{pair_row, pair_rows, paired, Blank, Pairs};
+ghost use Rattle.planner.specs.Inner.{pair_row, pair_rows, paired, Pairs};
 
 use crate::board::Board;
 use records::{Cluster, Constraint, Kind};
 use rules::{Destinations, VMS};
 
-// A mark for each pair of VMs.
-pub const PAIRS: usize = 65536;
+// For each VM its mates.
+pub type PairTable = [[bool; VMS]; VMS];
 
-pub type PairTable = [bool; PAIRS];
-
-// Marks VM v with each VM of a list.
-fn pair_row(vms: &[u8], v: u8, table: &mut PairTable)
-    ensures { table.new ≡ pair_row table.old v vms.now }
+// Marks each VM of a list in a VM's row.
+fn pair_row(vms: &[u8], row: &mut [bool; VMS])
+    ensures { row.new ≡ pair_row row.old vms.now }
 {
-    for w in vms {
-        table[usize::from(v) * VMS + usize::from(*w)] = true;
+    for &w in vms {
+        row[usize::from(w)] = true;
     }
 }
 
@@ -27,8 +25,8 @@ fn pair_row(vms: &[u8], v: u8, table: &mut PairTable)
 fn pair_rows(vms: &[u8], table: &mut PairTable)
     ensures { table.new ≡ pair_rows table.old vms.now vms.now }
 {
-    for v in vms {
-        pair_row(vms, *v, table);
+    for &v in vms {
+        pair_row(vms, &mut table[usize::from(v)]);
     }
 }
 
@@ -43,7 +41,7 @@ fn pair_part(constraint: &Constraint<'_>, table: &mut PairTable)
 
 // Marks all pairs, in a table that has no mark.
 pub fn pair_table(cluster: &Cluster<'_>, table: &mut PairTable)
-    requires { Blank table.old }
+    requires { table.old ≡ replicate 256 (replicate 256 false) }
     ensures pairs { Pairs cluster.now table.new }
     ensures sound { IsSound cluster.now }
 {
@@ -53,25 +51,21 @@ pub fn pair_table(cluster: &Cluster<'_>, table: &mut PairTable)
 }
 
 impl Board<'_> {
-    // Whether VM w counts on node d: it is on its way there, or there.
-    fn counts(&self, dests: &Destinations, w: usize, d: usize) -> bool
-        requires { w < 256 }
-        ensures { result ≡ (eqb (get_or self.now.places.now w 0) d || eqb (get_or dests.now w 0) d) }
-    {
-        usize::from(dests[w]) == d || self.place(w) == d
-    }
-
-    // Whether a mate of VM v counts on node d, with every move of the array of destinations running.
+    // Whether a mate of VM v counts on node d: it is there, or on its way there with the moves of the array of destinations.
     pub fn meets(&self, dests: &Destinations, v: usize, d: usize) -> bool
         requires vm { v < length self.now.cluster.now.vms }
         requires node { d < 64 }
         ensures { result ≡ meets_mate self.now.cluster.now (busy_from self.now.places.now dests.now 0 (length self.now.cluster.now.vms)) v d }
     {
+        // A node's number is below 64: nothing is cut off. No VM is a mate of its own.
+        let node = d as u8;
+        let mut mates = self.pairs[v];
+        mates[v] = false;
+        // Every VM is looked at, whatever was found, so that the compiler can do many at once.
+        let mut met = false;
         for w in 0..self.cluster.vm_count() {
-            if self.pairs[v * VMS + w] && w != v && self.counts(dests, w, d) {
-                return true;
-            }
+            met |= mates[w] & ((self.places[w] == node) | (dests[w] == node));
         }
-        false
+        met
     }
 }

@@ -36,12 +36,7 @@ impl Board<'_> {
         requires vm { v < length self.now.cluster.now.vms }
         ensures { result ≡ pivot_node self.now.cluster.now (held self.now.cluster.now self.now.places.now) v (nodes_in self.now.cluster.now) }
     {
-        for d in 0..self.cluster.node_count() {
-            if self.goes_aside(sums[d], v, d) {
-                return Some(d);
-            }
-        }
-        None
+        (0..self.cluster.node_count()).find(|d| self.goes_aside(sums[*d], v, *d))
     }
 
     // Whether VM u is not v, is wanted on node p, and may go there alone.
@@ -59,13 +54,8 @@ impl Board<'_> {
         requires { p < length self.now.cluster.now.nodes }
         ensures { result ≡ comes_to self.now.cluster.now (held self.now.cluster.now self.now.places.now) v p (vms_in self.now.cluster.now) }
     {
-        let here = rules::loads(self.cluster, self.places, &[NO_MOVE; VMS])[p];
-        for u in 0..self.cluster.vm_count() {
-            if self.comes(here, v, p, u) {
-                return true;
-            }
-        }
-        false
+        let here = rules::loads_at_rest(self.cluster, self.places)[p];
+        (0..self.cluster.vm_count()).any(|u| self.comes(here, v, p, u))
     }
 
     // The node of VM v's useful pivot. A VM that is down is not pivoted.
@@ -93,12 +83,12 @@ impl Board<'_> {
         then.some_comes(v, p).then_some(d)
     }
 
-    // The first useful pivot, VMs tried by number and for each its nodes by number.
+    // The first useful pivot, VMs tried by number and for each its nodes by number. A loop: in `find_map` the closure would make the array, with its cast.
     pub fn pivot_step(&self) -> Option<Destinations>
         requires { direct_step self.now.cluster.now (held self.now.cluster.now self.now.places.now) ≡ [] }
         ensures { result ≡ array_for (pivot_step self.now.cluster.now (held self.now.cluster.now self.now.places.now)) }
     {
-        let sums = rules::loads(self.cluster, self.places, &[NO_MOVE; VMS]);
+        let sums = rules::loads_at_rest(self.cluster, self.places);
         for v in 0..self.cluster.vm_count() {
             if let Some(d) = self.useful_node(&sums, v) {
                 let mut dests = [NO_MOVE; VMS];

@@ -7,22 +7,24 @@ ghost use Rattle.planner.specs.Inner.{answered};
 
 use crate::answer::{Answer, BuildFault, Made};
 use crate::board::Tables;
-use crate::mates::{PAIRS, pair_table};
+use crate::mates::pair_table;
 use crate::steps::write_steps;
 use records::{Cluster, Plan};
+use rules::{NODES, VMS};
 
-// The least buffer that is taken. No longer record comes out.
-pub const LEAST_BUFFER: usize = 2562;
+// The least buffer that is taken: never more than 511 steps and 511 moves are written, of two and three bytes each. No longer record comes out.
+pub const LEAST_BUFFER: usize = records::FIRST_STEP + 511 * 5;
 
 // The steps made, their record and their counts, for a buffer that is long enough.
 fn planned(cluster: &Cluster<'_>, out: &mut [u8]) -> Answer
     requires { least_buffer ≤ length out.old }
     ensures { Answers cluster.now (outcome cluster.now (steps_for cluster.now)) out.old out.new result }
 {
-    let mut allow = [0u8; rules::ALLOWED];
+    let mut allow = [[false; NODES]; VMS];
     rules::fill_allow_table(cluster, &mut allow);
-    let mut pairs = [false; PAIRS];
+    let mut pairs = [[false; VMS]; VMS];
     pair_table(cluster, &mut pairs);
+    // Lent again by `&*`: as `cluster`, the parameter is taken at a shorter lifetime, which the borrow checker does not cover.
     let tables = Tables {
         cluster: &*cluster,
         allow: &allow,

@@ -92,7 +92,7 @@ pub fn write_steps(tables: &Tables<'_>, out: &mut [u8]) -> Trail
     let cluster = tables.cluster;
     let vms = cluster.vm_count();
     let mut places = rules::current_places(cluster);
-    let mut end: usize = 7;
+    let mut end = records::FIRST_STEP;
     let mut steps: usize = 0;
     let mut moves: usize = 0;
     while let Some(dests) = next_step(tables, places) {

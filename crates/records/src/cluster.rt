@@ -2,19 +2,23 @@
 ghost use Rattle.std.specs.Prelude.{◌≡◌, ◌≤◌, eqb, length};
 ghost use Rattle.records.specs.Base.{all};
 ghost use Rattle.records.specs.Room.{node_count, vm_count, constraint_count, constraints_start, room_of, parts_of, parts_end, knows_nowhere, vm_ok, well_formed, cluster_check, ClusterRead};
+ghost use Rattle.records.specs.Inner.{row_vms};
 
 use crate::constraints::constraint_sound;
 use crate::faults::ClusterFault;
 use crate::header::{Header, version_known};
-use crate::rows::rows_sound;
 use crate::walk::{Parts, constraints_fill};
 
 impl<'a> Header<'a> {
     // 5: whether rows and constraints fill the record.
+    #[tactic(auto, using(crate::proofs::Laws::Parts::fills_none, crate::proofs::Laws::Parts::fills_rest))]
     fn filled(&self) -> bool
         ensures { result ≡ eqb (parts_end self.now (constraints_start self.now) (constraint_count self.now)) (length self.now) }
     {
-        constraints_fill(self.bytes, self.constraints_start(), self.constraints())
+        let count = self.constraints();
+        self.bytes
+            .get(self.constraints_start()..)
+            .is_some_and(|constraints| constraints_fill(constraints, count))
     }
 
     // The constraints of a record that they fill, part by part.
@@ -22,11 +26,21 @@ impl<'a> Header<'a> {
         requires { parts_end self.now (constraints_start self.now) (constraint_count self.now) ≡ length self.now }
         ensures { result ≡ parts_of self.now }
     {
+        let start = self.constraints_start();
         Parts {
-            bytes: self.bytes,
-            at: self.constraints_start(),
+            rest: &self.bytes[start..],
             left: self.constraints(),
         }
+    }
+
+    // The rows of the VMs.
+    fn vm_rows(&self) -> &'a [[u8; 7]]
+        requires { constraints_start self.now ≤ length self.now }
+        ensures { row_vms result.now ≡ (room_of self.now).vms }
+    {
+        let start = self.vms_start();
+        let end = self.constraints_start();
+        self.bytes[start..end].as_chunks().0
     }
 
     // 6: whether the VM rows are sound.
@@ -34,13 +48,7 @@ impl<'a> Header<'a> {
         requires { constraints_start self.now ≤ length self.now }
         ensures { result ≡ all (vm_ok (knows_nowhere self.now) (node_count self.now)) (room_of self.now).vms }
     {
-        rows_sound(
-            self.bytes,
-            self.vms_start(),
-            self.vms(),
-            self.nodes(),
-            self.knows_nowhere(),
-        )
+        self.vm_rows().iter().all(|row| self.row_sound(row))
     }
 
     // 7: whether the constraints are well formed.
@@ -50,12 +58,7 @@ impl<'a> Header<'a> {
     {
         let vms = self.vms();
         let nodes = self.nodes();
-        for part in self.parts() {
-            if !constraint_sound(part, vms, nodes) {
-                return false;
-            }
-        }
-        true
+        self.parts().all(|part| constraint_sound(part, vms, nodes))
     }
 }
 

@@ -2,11 +2,11 @@
 #![tactic(auto, using(crate::proofs::Laws::Constraints::kind_within, crate::proofs::Laws::Views::formed_within))]
 
 ghost use Rattle.std.specs.Iterator.{YieldsFirstRef, item_count};
-ghost use Rattle.std.specs.Prelude.{List, ℕ, ◌≡◌, true, ◌+◌, ◌≤◌, ◌<◌, length};
-ghost use Rattle.records.specs.Room.{Constraint as Meaning, groups_from, list_ok, kind_of, vms_of, nodes_of, groups_of, first_of, second_of, nodes_at, nodes_end, kind_at, others_at, constraint_of, filled, well_formed};
+ghost use Rattle.std.specs.Prelude.{List, ℕ, ◌≡◌, ◌≢◌, true, ◌≤◌, ◌<◌, ◌⊎◌, MatchOption, length, drop};
+ghost use Rattle.records.specs.Room.{Constraint as Meaning, groups_from, groups_end, list_ok, kind_of, vms_of, nodes_of, groups_of, first_of, second_of, others_at, constraint_of, filled, well_formed};
 ghost use Rattle.records.specs.declared.constraints.Kind.{Kind};
 ghost use Rattle.records.specs.Base.{all};
-ghost use Rattle.records.specs.Inner.{Below, GroupsLeft, nodes_ok, groups_ok, others_ok, pair_ok};
+ghost use Rattle.records.specs.Inner.{Below, kind_number, nodes_ok, groups_ok, pair_ok};
 
 use crate::bytes::count16;
 use crate::groups::groups;
@@ -22,54 +22,54 @@ pub enum Kind {
     Before,
 }
 
-// Whether a sound node list runs from `at` to the end.
-fn nodes_sound(p: &[u8], at: usize, nodes: usize) -> bool
-    requires { at ≤ length p.now }
-    ensures { result ≡ nodes_ok nodes p.now at }
-{
-    node_list(p, at, nodes) == Some(p.len())
-}
-
-// Whether a group count and that many groups run from `at` to the end.
-fn groups_sound(p: &[u8], at: usize, nodes: usize) -> bool
-    requires { (at ≤ length p.now) × (nodes ≤ 64) }
-    ensures { result ≡ groups_ok nodes p.now at }
-{
-    if p.len() <= at {
-        return false;
+impl Kind {
+    // The kind that a number stands for.
+    fn of(number: u8) -> Option<Kind>
+        ensures { MatchOption result ((number < 1) ⊎ (5 < number)) (λ kind. kind_number kind ≡ number) }
+    {
+        match number {
+            1 => Some(Kind::Ban),
+            2 => Some(Kind::Fence),
+            3 => Some(Kind::Spread),
+            4 => Some(Kind::Latency),
+            5 => Some(Kind::Before),
+            _ => None,
+        }
     }
-    let count = usize::from(p[at]);
-    count <= 64 && groups(p, at + 1, count, nodes) == Some(p.len())
 }
 
-// Whether what the kind asks for behind the VM list runs from `at` to the end.
-#[tactic(auto, unfolding(crate::specs::Inner::others_ok))]
-fn others_sound(p: &[u8], at: usize, nodes: usize) -> bool
-    requires { (2 < length p.now) × (at ≤ length p.now) × (nodes ≤ 64) }
-    ensures { result ≡ others_ok nodes p.now at }
+// Whether a sound node list is all that is left.
+fn nodes_sound(rest: &[u8], nodes: usize) -> bool
+    ensures { result ≡ nodes_ok nodes rest.now }
 {
-    match p[2] {
-        1 | 2 => nodes_sound(p, at, nodes),
-        3 => at == p.len(),
-        4 => groups_sound(p, at, nodes),
+    node_list(rest, nodes).is_some_and(|(_, behind)| behind.is_empty())
+}
+
+// Whether a group count and that many groups are all that is left.
+fn groups_sound(rest: &[u8], nodes: usize) -> bool
+    requires { nodes ≤ 64 }
+    ensures { result ≡ groups_ok nodes rest.now }
+{
+    match rest {
+        [count, rest @ ..] => {
+            *count <= 64
+                && groups(rest, usize::from(*count), nodes).is_some_and(|behind| behind.is_empty())
+        }
+        [] => false,
+    }
+}
+
+// Whether two different VMs, of so many, are all that is left.
+#[tactic(auto, unfolding(crate::specs::Inner::pair_ok))]
+fn pair_sound(rest: &[u8], vms: usize) -> bool
+    ensures { result ≡ pair_ok vms rest.now }
+{
+    match rest {
+        [first, second] => {
+            usize::from(*first) < vms && usize::from(*second) < vms && first != second
+        }
         _ => false,
     }
-}
-
-// Whether the part is that of two different VMs, of so many.
-#[tactic(auto, unfolding(crate::specs::Inner::pair_ok))]
-fn pair_sound(p: &[u8], vms: usize) -> bool
-    ensures { result ≡ pair_ok vms p.now }
-{
-    if p.len() != 5 {
-        return false;
-    }
-    let first = usize::from(p[3]);
-    let second = usize::from(p[4]);
-    if vms <= first || vms <= second {
-        return false;
-    }
-    first != second
 }
 
 // Whether the constraint has a known kind and sound lists, or two VMs, that fill it, for so many VMs and nodes.
@@ -77,31 +77,30 @@ pub fn constraint_sound(p: &[u8], vms: usize, nodes: usize) -> bool
     requires { nodes ≤ 64 }
     ensures { result ≡ well_formed vms nodes p.now }
 {
-    if p.len() < 3 {
+    let [_, _, number, rest @ ..] = p else {
         return false;
+    };
+    let Some(kind) = Kind::of(*number) else {
+        return false;
+    };
+    match kind {
+        Kind::Ban | Kind::Fence => {
+            vm_list(rest, vms).is_some_and(|(_, others)| nodes_sound(others, nodes))
+        }
+        Kind::Spread => vm_list(rest, vms).is_some_and(|(_, others)| others.is_empty()),
+        Kind::Latency => {
+            vm_list(rest, vms).is_some_and(|(_, others)| groups_sound(others, nodes))
+        }
+        Kind::Before => pair_sound(rest, vms),
     }
-    if p[2] == 5 {
-        return pair_sound(p, vms);
-    }
-    vm_list(p, 3, vms).is_some_and(|at| others_sound(p, at, nodes))
 }
 
-// Where the lists behind the VM list start.
-fn others_at(p: &[u8]) -> usize
-    requires { (filled p.now ≡ true) × (kind_at p.now < 5) }
-    ensures { (result ≡ others_at p.now) × (5 ≤ result) × (result ≤ length p.now) }
+// The VM list, and what is behind it, of a constraint that has one.
+fn lists(p: &[u8]) -> (&[u8], &[u8])
+    requires { (filled p.now ≡ true) × (kind_of (constraint_of p.now) ≢ Kind.Before) }
+    ensures { (result.0.now ≡ vms_of (constraint_of p.now)) × (result.1.now ≡ drop (others_at p.now) p.now) }
 {
-    5 + count16(p, 3)
-}
-
-// The nodes of the group at a place.
-fn group_nodes(p: &[u8], at: usize) -> &[u8]
-    requires { nodes_end p.now at ≤ length p.now }
-    ensures { result.now ≡ nodes_at p.now at }
-{
-    let start = at + 1;
-    let end = start + usize::from(p[at]);
-    &p[start..end]
+    p[5..].split_at(count16(p, 3))
 }
 
 // A constraint of a cluster that was read.
@@ -123,24 +122,17 @@ impl<'a> Constraint<'a> {
     pub fn kind(&self) -> Kind
         ensures { result ≡ kind_of self.now }
     {
-        match self.part[2] {
-            1 => Kind::Ban,
-            2 => Kind::Fence,
-            3 => Kind::Spread,
-            4 => Kind::Latency,
-            _ => Kind::Before,
-        }
+        // A constraint that was read has a kind's number, so the default is never taken; its definition says "else before" too.
+        Kind::of(self.part[2]).unwrap_or(Kind::Before)
     }
 
     // The VMs that it binds; none if it has two VMs.
     pub fn vms(&self) -> &'a [u8]
         ensures { result.now ≡ vms_of self.now }
     {
-        if self.part[2] < 5 {
-            let end = others_at(self.part);
-            &self.part[5..end]
-        } else {
-            &self.part[..0]
+        match self.kind() {
+            Kind::Before => &[],
+            _ => lists(self.part).0,
         }
     }
 
@@ -149,11 +141,9 @@ impl<'a> Constraint<'a> {
         ensures nodes { result.now ≡ nodes_of self.now }
         ensures below { Below 64 result.now }
     {
-        if self.part[2] < 3 {
-            let start = others_at(self.part) + 1;
-            &self.part[start..]
-        } else {
-            &self.part[..0]
+        match self.kind() {
+            Kind::Ban | Kind::Fence => &lists(self.part).1[1..],
+            _ => &[],
         }
     }
 
@@ -163,23 +153,18 @@ impl<'a> Constraint<'a> {
         ensures sound { all (list_ok 64) result ≡ true }
         ensures few { length result ≤ 64 }
     {
-        if self.part[2] == 4 {
-            let at = others_at(self.part);
-            Groups {
-                part: self.part,
-                at: at + 1,
-                left: usize::from(self.part[at]),
+        match self.kind() {
+            Kind::Latency => {
+                let (_, others) = lists(self.part);
+                let left = usize::from(others[0]);
+                let rest = &others[1..];
+                Groups { rest, left }
             }
-        } else {
-            Groups {
-                part: self.part,
-                at: 0,
-                left: 0,
-            }
+            _ => Groups { rest: &[], left: 0 },
         }
     }
 
-    // The VM that comes first, of a constraint that has two.
+    // The VM that comes first, of a constraint that has two. It and `second` stay two: a line each.
     pub fn first(&self) -> u8
         requires { kind_of self.now ≡ Kind.Before }
         ensures { result ≡ first_of self.now }
@@ -199,17 +184,16 @@ impl<'a> Constraint<'a> {
 // The groups that are left of a constraint.
 #[derive(Drop)]
 pub struct Groups<'a> {
-    part: &'a [u8],
-    at: usize,
+    rest: &'a [u8],
     left: usize,
 }
 
 impl<'a> Model for Groups<'a> {
     ghost Value = { List (List ℕ) };
 
-    ghost view = { λ g. groups_from g.part.now g.at g.left };
+    ghost view = { λ g. groups_from g.rest.now 0 g.left };
 
-    ghost invariant = { λ g. GroupsLeft g.part.now g.at g.left };
+    ghost invariant = { λ g. groups_end g.rest.now 0 g.left ≡ length g.rest.now };
 }
 
 impl<'a> Iterator for Groups<'a> {
@@ -220,11 +204,9 @@ impl<'a> Iterator for Groups<'a> {
     ghost remaining = { item_count (λ rest. rest) };
 
     fn next(&mut self) -> Option<&'a [u8]> {
-        if self.left == 0 {
-            return None;
-        }
-        let nodes = group_nodes(self.part, self.at);
-        self.at += 1 + nodes.len();
+        let (count, rest) = self.rest.split_first()?;
+        let (nodes, behind) = rest.split_at(usize::from(*count));
+        self.rest = behind;
         self.left -= 1;
         Some(nodes)
     }

@@ -1,6 +1,6 @@
 // The groups of a latency constraint: node lists one behind the other, no node in two.
-ghost use Rattle.std.specs.Prelude.{◌≡◌, ◌+◌, ◌≤◌, length};
-ghost use Rattle.records.specs.Inner.{Below, unseen_in, marked_in, unmarked, Grouped, groups_read};
+ghost use Rattle.std.specs.Prelude.{◌≡◌, ◌≤◌};
+ghost use Rattle.records.specs.Inner.{Below, unseen_in, marked_in, unmarked, Grouped, groups_read, shown_rest};
 
 use crate::lists::node_list;
 
@@ -9,12 +9,7 @@ fn unseen(nodes: &[u8], seen: &[bool; 64]) -> bool
     requires { Below 64 nodes.now }
     ensures { result ≡ unseen_in seen.now nodes.now }
 {
-    for node in nodes {
-        if seen[usize::from(*node)] {
-            return false;
-        }
-    }
-    true
+    nodes.iter().all(|node| !seen[usize::from(*node)])
 }
 
 // Marks the nodes.
@@ -27,30 +22,28 @@ fn mark(nodes: &[u8], seen: &mut [bool; 64])
     }
 }
 
-// One group: a node list of unmarked nodes, which are marked; and where it ends.
-fn group(p: &[u8], at: usize, limit: usize, seen: &mut [bool; 64]) -> Option<usize>
-    requires { (at ≤ length p.now) × (limit ≤ 64) }
-    ensures { Grouped limit seen.old p.now at result seen.new }
+// One group: a node list of unmarked nodes, which are marked; and what is behind it.
+fn group<'a>(rest: &'a [u8], limit: usize, seen: &mut [bool; 64]) -> Option<&'a [u8]>
+    requires { limit ≤ 64 }
+    ensures { Grouped limit seen.old rest.now (shown_rest result) seen.new }
 {
-    let end = node_list(p, at, limit)?;
-    let first = at + 1;
-    let nodes = &p[first..end];
+    let (nodes, behind) = node_list(rest, limit)?;
     if !unseen(nodes, seen) {
         return None;
     }
     mark(nodes, seen);
-    Some(end)
+    Some(behind)
 }
 
-// So many groups, and where the last one ends.
-pub fn groups(p: &[u8], start: usize, count: usize, limit: usize) -> Option<usize>
-    requires { (start ≤ length p.now) × (limit ≤ 64) }
-    ensures { result ≡ groups_read limit p.now unmarked start count }
+// So many groups, and what is behind the last one.
+pub fn groups(rest: &[u8], count: usize, limit: usize) -> Option<&[u8]>
+    requires { limit ≤ 64 }
+    ensures { shown_rest result ≡ groups_read limit rest.now unmarked count }
 {
     let mut seen = [false; 64];
-    let mut at = start;
+    let mut behind = rest;
     for _ in 0..count {
-        at = group(p, at, limit, &mut seen)?;
+        behind = group(behind, limit, &mut seen)?;
     }
-    Some(at)
+    Some(behind)
 }

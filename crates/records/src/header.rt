@@ -1,8 +1,8 @@
-// Headers: the version of either record, and the header of a cluster record with its length and counts.
+// Headers: the version and the stated length of either record, and the header of a cluster record with its counts.
 #![tactic(auto, unfolding(crate::specs::Bytes::known_version, crate::specs::Room::knows_nowhere, crate::specs::Room::counts_ok))]
 
 ghost use Rattle.std.specs.Prelude.{List, ℕ, ◌≡◌, ◌≤◌, ◌<◌, ◌^◌, length};
-ghost use Rattle.records.specs.Bytes.{known_version};
+ghost use Rattle.records.specs.Bytes.{be32, known_version};
 ghost use Rattle.records.specs.Room.{node_count, vm_count, constraint_count, vms_start, constraints_start, knows_nowhere, length_ok, counts_ok};
 
 use crate::bytes::{be32, count16};
@@ -13,6 +13,15 @@ pub fn version_known(version: u8) -> bool
     ensures { result ≡ known_version version }
 {
     version == 1 || version == 2
+}
+
+// How long a record says it is. All four bytes count.
+pub fn stated_length(s: &[u8]) -> usize
+    requires { 7 ≤ length s.now }
+    ensures { result ≡ be32 s.now 1 }
+{
+    // `usize` has no From<u32>.
+    be32(s, 1) as usize
 }
 
 // A cluster record that is long enough for its header.
@@ -69,12 +78,11 @@ impl Header<'_> {
         self.vms_start() + self.vms() * 7
     }
 
-    // Whether the stated length is that of the bytes lent, and not too large. All four bytes count.
+    // Whether the stated length is that of the bytes lent, and not too large.
     pub fn length_right(&self) -> bool
         ensures { result ≡ length_ok self.now }
     {
-        // `usize` has no From<u32>.
-        let stated = be32(self.bytes, 1) as usize;
+        let stated = stated_length(self.bytes);
         stated == self.bytes.len() && stated <= 65535
     }
 

@@ -23,6 +23,9 @@ pub use faults::{ClusterFault, PlanFault, ReadFault};
 pub use cluster::cluster_check;
 pub use room::{Cluster, MOST_RESERVE, NOWHERE};
 
+// How long a record of either kind says it is.
+pub use header::stated_length;
+
 // A constraint of it.
 pub use constraints::{Constraint, Groups, Kind};
 pub use walk::Constraints;
@@ -30,7 +33,7 @@ pub use walk::Constraints;
 // A plan record.
 pub use plan::{
     FIRST_STEP, LONGEST_PLAN, MOST_MOVES, MOST_STEP_MOVES, MOST_STEPS, Move, NAMING_VERSION,
-    Source, kept_version, plan_check, stated_length,
+    Source, kept_version, plan_check,
 };
 pub use steps::{Moves, Plan, Step, Steps};
 

@@ -1,13 +1,12 @@
-// Lists inside a constraint. `p` is always the part of the record from the constraint's first byte to its stated end, so no
-// reader can look past that end.
+// Lists inside a constraint. `rest` is what is left of the constraint's part of the record, so no reader can look past its stated end.
 #![tactic(auto, unfolding(crate::specs::Inner::listed))]
 
-ghost use Rattle.std.specs.Prelude.{◌≡◌, ◌+◌, ◌≤◌, length};
+ghost use Rattle.std.specs.Prelude.{◌≡◌};
 ghost use Rattle.records.specs.Bytes.{byte_at, be16};
 ghost use Rattle.records.specs.Room.{list_ok};
-ghost use Rattle.records.specs.Inner.{listed};
+ghost use Rattle.records.specs.Inner.{listed, shown};
 
-use crate::bytes::count16;
+use crate::bytes::front_count;
 
 // Whether the elements rise strictly and are all below the limit.
 pub fn rising(list: &[u8], limit: usize) -> bool
@@ -24,35 +23,27 @@ pub fn rising(list: &[u8], limit: usize) -> bool
     true
 }
 
-// The list of n elements that starts at `first`: where it ends, if it lies within the part and is in order and range.
-fn list_from(p: &[u8], first: usize, n: usize, limit: usize) -> Option<usize>
-    ensures { result ≡ listed limit p.now first n }
+// The list of n elements at the front, and what is behind it, if it is there and in order and range.
+fn list_from(rest: &[u8], n: usize, limit: usize) -> Option<(&[u8], &[u8])>
+    ensures { shown result ≡ listed limit rest.now 0 n }
 {
-    if p.len() < first || p.len() - first < n {
-        return None;
-    }
-    let end = first + n;
-    rising(&p[first..end], limit).then_some(end)
+    let (list, behind) = rest.split_at_checked(n)?;
+    rising(list, limit).then_some((list, behind))
 }
 
 // A VM list: a count of two bytes, then the VMs. It and a node list differ in the count's width; what they share is `list_from`.
-pub fn vm_list(p: &[u8], at: usize, limit: usize) -> Option<usize>
-    requires { at ≤ length p.now }
-    ensures { result ≡ listed limit p.now (at + 2) (be16 p.now at) }
+#[tactic(auto, unfolding(crate::specs::Bytes::be16, crate::specs::Inner::listed))]
+pub fn vm_list(rest: &[u8], limit: usize) -> Option<(&[u8], &[u8])>
+    ensures { shown result ≡ listed limit rest.now 2 (be16 rest.now 0) }
 {
-    if p.len() - at < 2 {
-        return None;
-    }
-    list_from(p, at + 2, count16(p, at), limit)
+    let (count, rest) = front_count(rest)?;
+    list_from(rest, count, limit)
 }
 
 // A node list: a count of one byte, then the nodes.
-pub fn node_list(p: &[u8], at: usize, limit: usize) -> Option<usize>
-    requires { at ≤ length p.now }
-    ensures { result ≡ listed limit p.now (at + 1) (byte_at p.now at) }
+pub fn node_list(rest: &[u8], limit: usize) -> Option<(&[u8], &[u8])>
+    ensures { shown result ≡ listed limit rest.now 1 (byte_at rest.now 0) }
 {
-    if p.len() - at < 1 {
-        return None;
-    }
-    list_from(p, at + 1, usize::from(p[at]), limit)
+    let (count, rest) = rest.split_first()?;
+    list_from(rest, usize::from(*count), limit)
 }

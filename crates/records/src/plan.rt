@@ -2,13 +2,13 @@
 #![tactic(auto, using(crate::proofs::Laws::Steps::checking), unfolding(crate::specs::Plan::names_sources, crate::specs::Plan::move_width, crate::specs::Plan::source_at, crate::specs::Plan::move_at, crate::specs::Plan::kept_version))]
 
 ghost use Rattle.std.specs.Prelude.{◌≡◌, ◌&&◌, ◌+◌, ◌≤◌, ◌<◌, length, eqb};
-ghost use Rattle.records.specs.Bytes.{be32, version_of};
+ghost use Rattle.records.specs.Bytes.{version_of};
 ghost use Rattle.records.specs.Plan.{step_count, move_at, move_width, names_sources, source_at, steps_of, steps_end, shaped, kept_version, PlanRead};
 ghost use Rattle.records.specs.Inner.{steps_ok};
 
-use crate::bytes::{be32, count16};
+use crate::bytes::count16;
 use crate::faults::PlanFault;
-use crate::header::version_known;
+use crate::header::{stated_length, version_known};
 
 // The source that a move names. Version 1 names none. Not an Option: the format and its definitions say `Unnamed` and `Named`, and None would read
 // as no move.
@@ -65,7 +65,8 @@ pub fn move_width(s: &[u8]) -> usize
     }
 }
 
-// Whether so many steps from behind the header have counts in their ranges and fill the record.
+// Whether so many steps from behind the header have counts in their ranges and fill the record. By place, as in `Steps`: what is left would
+// forget the version.
 fn steps_sound(s: &[u8], count: usize) -> bool
     requires { (7 ≤ length s.now) × (count ≤ 512) }
     ensures { result ≡ steps_ok s.now 7 count 0 }
@@ -118,22 +119,11 @@ pub fn plan_check(s: &[u8]) -> Result<(), PlanFault>
     Ok(())
 }
 
-// How long a record says it is.
-pub fn stated_length(s: &[u8]) -> usize
-    requires { 7 ≤ length s.now }
-    ensures { result ≡ be32 s.now 1 }
-{
-    be32(s, 1) as usize
-}
-
 // The version in which an undamaged record is written anew: its own, and the one that names sources if it has 0 bytes.
 pub fn kept_version(s: &[u8]) -> u8
     ensures { result ≡ kept_version s.now }
 {
-    match s.first() {
-        Some(version) => *version,
-        None => NAMING_VERSION,
-    }
+    s.first().copied().unwrap_or(NAMING_VERSION)
 }
 
 // The source at a place, if the moves of a record name theirs.

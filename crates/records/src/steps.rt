@@ -26,7 +26,7 @@ impl<'a> Model for Plan<'a> {
     ghost invariant = { λ p. plan_check p.bytes.now ≡ Ok tt };
 }
 
-// The steps that are left of a plan.
+// The steps that are left of a plan. They, a step and its moves keep the whole record and a place: byte 0 says how wide a move is, and a rest would forget it.
 #[derive(Drop)]
 pub struct Steps<'a> {
     bytes: &'a [u8],

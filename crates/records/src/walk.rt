@@ -1,57 +1,45 @@
 // The constraints of a cluster record, one behind the other by their stated lengths.
-ghost use Rattle.std.specs.Prelude.{List, ℕ, ◌≡◌, true, ◌≤◌, length, map, eqb};
+ghost use Rattle.std.specs.Prelude.{List, ℕ, ◌≡◌, ◌+◌, ◌<◌, true, length, map, eqb, MatchOption};
 ghost use Rattle.records.specs.Base.{all};
 ghost use Rattle.std.specs.Iterator.{YieldsFirst, YieldsFirstRef, item_count};
-ghost use Rattle.records.specs.Room.{Constraint as Meaning, constraint_of, part_end, part_at, parts_from, parts_end, well_formed};
+ghost use Rattle.records.specs.Room.{Constraint as Meaning, constraint_of, parts_from, parts_end, well_formed};
 
-use crate::bytes::count16;
+use crate::bytes::front_count;
 use crate::constraints::Constraint;
 use std::marker::Model;
 
-// Whether so many constraints from a place end where the record does. It goes by itself: it tests what `Parts` has as its invariant.
-pub fn constraints_fill(s: &[u8], start: usize, count: usize) -> bool
-    ensures { result ≡ eqb (parts_end s.now start count) (length s.now) }
+// What stands behind so many constraints, if each is as long as it says.
+fn behind(constraints: &[u8], count: usize) -> Option<&[u8]>
+    ensures { MatchOption result (length constraints.now < parts_end constraints.now 0 count) (λ rest. parts_end constraints.now 0 count + length rest.now ≡ length constraints.now) }
 {
-    if s.len() < start {
-        return false;
-    }
-    let mut at = start;
+    let mut rest = constraints;
     for _ in 0..count {
-        if s.len() - at < 2 {
-            return false;
-        }
-        let size = count16(s, at);
-        if s.len() - at - 2 < size {
-            return false;
-        }
-        at += 2 + size;
+        let (size, body) = front_count(rest)?;
+        rest = body.get(size..)?;
     }
-    at == s.len()
+    Some(rest)
 }
 
-// The constraint at a place: the part of the record from its first byte to its stated end.
-fn part(s: &[u8], at: usize) -> &[u8]
-    requires { part_end s.now at ≤ length s.now }
-    ensures { result.now ≡ part_at s.now at }
+// Whether so many constraints are all that there is. It goes by itself: it tests what `Parts` has as its invariant.
+pub fn constraints_fill(constraints: &[u8], count: usize) -> bool
+    ensures { result ≡ eqb (parts_end constraints.now 0 count) (length constraints.now) }
 {
-    let end = at + 2 + count16(s, at);
-    &s[at..end]
+    behind(constraints, count).is_some_and(|rest| rest.is_empty())
 }
 
-// The parts that are left of a record that its constraints fill, one for each.
+// The constraints that are left, each the part of the record from its first byte to its stated end; they fill the rest.
 #[derive(Drop)]
 pub struct Parts<'a> {
-    pub(crate) bytes: &'a [u8],
-    pub(crate) at: usize,
+    pub(crate) rest: &'a [u8],
     pub(crate) left: usize,
 }
 
 impl<'a> Model for Parts<'a> {
     ghost Value = { List (List ℕ) };
 
-    ghost view = { λ p. parts_from p.bytes.now p.at p.left };
+    ghost view = { λ p. parts_from p.rest.now 0 p.left };
 
-    ghost invariant = { λ p. parts_end p.bytes.now p.at p.left ≡ length p.bytes.now };
+    ghost invariant = { λ p. parts_end p.rest.now 0 p.left ≡ length p.rest.now };
 }
 
 impl<'a> Iterator for Parts<'a> {
@@ -62,11 +50,9 @@ impl<'a> Iterator for Parts<'a> {
     ghost remaining = { item_count (λ rest. rest) };
 
     fn next(&mut self) -> Option<&'a [u8]> {
-        if self.left == 0 {
-            return None;
-        }
-        let part = part(self.bytes, self.at);
-        self.at += part.len();
+        let (size, _) = front_count(self.rest)?;
+        let (part, rest) = self.rest.split_at(2 + size);
+        self.rest = rest;
         self.left -= 1;
         Some(part)
     }

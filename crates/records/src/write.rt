@@ -34,6 +34,7 @@ pub fn finish_step(out: &mut [u8], at: usize, n: usize) -> usize
     requires { at + 2 + n * written_width ≤ length out.old }
     ensures { (result ≡ at + 2 + n * written_width) × (out.new ≡ written out.old at (bytes16 n)) }
 {
+    // The low two bytes: `n as u16` would owe a bound that the contract does not give.
     put(out, at, &n.to_be_bytes()[6..]) + n * NAMING_WIDTH
 }
 

@@ -11,6 +11,7 @@ pub mod Waiting
 pub mod Sources
 pub mod Returned
 pub mod Verdicts
+pub mod Taken
 pub mod Divided
 pub mod Contract
 pub mod Stricter

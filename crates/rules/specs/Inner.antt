@@ -1,9 +1,9 @@
 -- What inner functions answer, on the way to the definitions before. Nothing here has to be believed.
-use Rattle.std.specs.Prelude.{ℕ, zero, suc, ◌+◌, ◌-◌, ◌*◌, ◌/◌, ◌%◌, ◌<◌, ◌≤◌, ◌^◌, Bool, true, false, not, ◌&&◌, ◌||◌, List, [], ◌∷◌, ◌++◌, map, ◌≡◌, length, get_or, set, take, drop, replicate, ltb, leb, eqb, Result, Ok, Err}
+use Rattle.std.specs.Prelude.{ℕ, zero, suc, ◌+◌, ◌-◌, ◌*◌, ◌<◌, ◌≤◌, ◌^◌, Bool, true, false, not, ◌&&◌, ◌||◌, List, [], ◌∷◌, ◌++◌, map, ◌≡◌, length, get_or, set, take, drop, replicate, ltb, leb, eqb, Result, Ok, Err}
 use Rattle.std.specs.List.{list_all}
 use Rattle.records.specs.Base.{pick, all, sum_of}
 use Rattle.records.specs.Room.{Constraint, ban, fence, spread, latency, before, Room, IsSound, vm_of, node_of, place_ok}
-use Rattle.records.specs.Plan.{Move, Step, move_of}
+use Rattle.records.specs.Plan.{Step, move_of}
 use Rattle.rules.specs.Moments.{Placement, Phase, staying, running, cell, Moment, tally_at, empty_tally, within, bears_at}
 use Rattle.rules.specs.Cost.{memory_of, cost_of}
 use Rattle.rules.specs.Orders.{some}
@@ -64,7 +64,7 @@ busy_from places dests v (suc n) = cell v (get_or places v 0) (goal_in dests v) 
 
 -- places and destinations are such that a tally can be kept: no VM goes to the node it is on
 pub record Ready (room : Room) (places dests : List ℕ) : Type 0 where
-  pub leaves : (v : ℕ) → v < length room.vms → get_or dests v 0 < 64 → get_or dests v 0 ≡ get_or places v 0 → ⊥
+  pub leaves : (v : ℕ) → v < length room.vms → v < 256 → get_or dests v 0 < 64 → get_or dests v 0 ≡ get_or places v 0 → ⊥
 
 -- the sums over the first n VMs
 pub record Loaded (room : Room) (places dests : List ℕ) (n : ℕ) (sums : List Tally) : Type 0 where
@@ -85,58 +85,52 @@ pub record Aimed (room : Room) (step : Step) : Type 0 where
   pub vms : (i : ℕ) → i < length step → (move_of step i).vm < length room.vms
   pub each : (i : ℕ) → i < length step → place_ok true (length room.nodes) (move_of step i).to ≡ true
 
--- a move fits where it goes, what counts there being given: its destination bears that for the VM that is sent there
-abbrev pub borne_in : Room → Tally → Move → Bool
-borne_in room here move = bears_at room move.to here (vm_of room move.vm)
+-- each move of a step fits where it goes, what counts there being every VM that starts there or goes there
+unfoldable pub fits_running : Room → List ℕ → List ℕ → Step → Bool
+fits_running room places dests step = all (λ move. bears_at room move.to (tally_at room move.to (busy_from places dests 0 (length room.vms))) (vm_of room move.vm)) step
 
--- each move of a step fits, what counts there being as the sums have it
-unfoldable pub fits_in : Room → List Tally → Step → Bool
-fits_in room sums step = all (λ move. borne_in room (get_or sums move.to empty_tally) move) step
+-- ---- where each VM may go, as a table of a row of 64 marks for each VM
 
--- ---- where each VM may go, as a table of 64 marks a VM
+-- a row, its first d marks without the stopped nodes
+unfoldable pub row_kept : List Bool → List Bool → ℕ → List Bool
+row_kept row stop zero = row
+row_kept row stop (suc d) = set (row_kept row stop d) d (get_or (row_kept row stop d) d false && not (get_or stop d false))
 
--- the first d marks of the row of VM v, without the stopped nodes
-unfoldable pub row_kept : List ℕ → List Bool → ℕ → ℕ → List ℕ
-row_kept table stop v zero = table
-row_kept table stop v (suc d) =
-    set (row_kept table stop v d) (v * 64 + d) (pick (get_or stop d false) 0 (get_or (row_kept table stop v d) (v * 64 + d) 0))
-
-abbrev pub list_kept : List ℕ → List Bool → List ℕ → List ℕ
+abbrev pub list_kept : List (List Bool) → List Bool → List ℕ → List (List Bool)
 list_kept table stop [] = table
-list_kept table stop (v ∷ vs) = list_kept (row_kept table stop v 64) stop vs
+list_kept table stop (v ∷ vs) = list_kept (set table v (row_kept (get_or table v []) stop 64)) stop vs
 
 -- marks for nodes
 abbrev pub stopped : List Bool → Bool → List ℕ → List Bool
 stopped marks mark [] = marks
 stopped marks mark (d ∷ ds) = stopped (set marks d mark) mark ds
 
--- the nodes that a constraint keeps its VMs from: a ban those that it names, a fence all others
-unfoldable pub stops_of : Constraint → List Bool
-stops_of (ban vms nodes) = stopped (replicate 64 false) true nodes
-stops_of (fence vms nodes) = stopped (replicate 64 true) false nodes
-stops_of (spread vms) = replicate 64 false
-stops_of (latency vms groups) = replicate 64 false
-stops_of (before first second) = replicate 64 false
+-- the nodes of a list; all but those
+abbrev pub only : List ℕ → List Bool
+only nodes = stopped (replicate 64 false) true nodes
 
--- what a constraint takes away
-unfoldable pub applied : List ℕ → Constraint → List ℕ
-applied table (ban vms nodes) = list_kept table (stops_of (ban vms nodes)) vms
-applied table (fence vms nodes) = list_kept table (stops_of (fence vms nodes)) vms
+abbrev pub all_but : List ℕ → List Bool
+all_but nodes = stopped (replicate 64 true) false nodes
+
+-- what a constraint takes away: a ban keeps its VMs from the nodes that it names, a fence from all others
+unfoldable pub applied : List (List Bool) → Constraint → List (List Bool)
+applied table (ban vms nodes) = list_kept table (only nodes) vms
+applied table (fence vms nodes) = list_kept table (all_but nodes) vms
 applied table (spread vms) = table
 applied table (latency vms groups) = table
 applied table (before first second) = table
 
-abbrev pub applied_all : List ℕ → List Constraint → List ℕ
+abbrev pub applied_all : List (List Bool) → List Constraint → List (List Bool)
 applied_all table [] = table
 applied_all table (k ∷ ks) = applied_all (applied table k) ks
 
--- the table: mark i is 1 if VM i / 64 may go to node i % 64, else 0
-unfoldable pub allow_table : Room → List ℕ
-allow_table room = map (λ i. pick (allowed room (i / 64) (i % 64)) 1 0) (from 0 16384)
+-- the table: mark d of row v is true if VM v may go to node d
+unfoldable pub allow_table : Room → List (List Bool)
+allow_table room = map (λ v. map (allowed room v) (from 0 64)) (from 0 256)
 
 -- a table tells where each VM may go
-pub record Allows (room : Room) (table : List ℕ) : Type 0 where
-  pub each : (v d : ℕ) → v < length room.vms → d < 64 → get_or table (v * 64 + d) 0 ≡ pick (allowed room v d) 1 0
+pub record Allows (room : Room) (table : List (List Bool)) : Type 0 where
+  pub each : (v d : ℕ) → v < length room.vms → d < 64 → get_or (get_or table v []) d false ≡ allowed room v d
 
 -- ---- spreads
 
@@ -144,6 +138,10 @@ pub record Allows (room : Room) (table : List ℕ) : Type 0 where
 abbrev pub start_marks : List Bool → List ℕ → List ℕ → List Bool
 start_marks marks places [] = marks
 start_marks marks places (v ∷ vs) = start_marks (set marks (get_or places v 0) true) places vs
+
+-- a VM's place, or its destination, is a node
+abbrev pub on_some_node : List ℕ → ℕ → Bool
+on_some_node places v = ltb (get_or places v 0) 64
 
 -- each VM that arrives at a node finds it unmarked; it is then marked
 abbrev pub go_unmet : List Bool → List ℕ → List ℕ → Bool
@@ -220,12 +218,12 @@ all_down places vms = list_all (λ v. leb 64 (get_or places v 0)) vms
 
 -- all VMs on nodes are in a group
 abbrev pub group_holds : List ℕ → List ℕ → List ℕ → Bool
-group_holds places vms g = clear_of (stopped (replicate 64 true) false g) places vms
+group_holds places vms g = clear_of (all_but g) places vms
 
 -- the places of an array keep a constraint
 unfoldable pub keeps_in : List ℕ → Constraint → Bool
-keeps_in places (ban vms nodes) = clear_of (stops_of (ban vms nodes)) places vms
-keeps_in places (fence vms nodes) = clear_of (stops_of (fence vms nodes)) places vms
+keeps_in places (ban vms nodes) = clear_of (only nodes) places vms
+keeps_in places (fence vms nodes) = clear_of (all_but nodes) places vms
 keeps_in places (spread vms) = go_unmet (replicate 256 false) places vms
 keeps_in places (latency vms groups) = all_down places vms || some (group_holds places vms) groups
 keeps_in places (before first second) = true

@@ -25,7 +25,5 @@ pub type Marks = [bool; PLACES];
 // Some of the nodes.
 pub type Nodes = [bool; NODES];
 
-// A mark for each node of each VM: 1 where the VM may go.
-pub const ALLOWED: usize = 16384;
-
-pub type AllowTable = [u8; ALLOWED];
+// For each VM the nodes where it may go.
+pub type AllowTable = [Nodes; VMS];

@@ -2,30 +2,25 @@
 ghost use Rattle.std.specs.Prelude.{◌≡◌};
 ghost use Rattle.rules.specs.Inner.{bound_check};
 
-use crate::arrays::{Destinations, Placement};
 use crate::faults::StepFault;
-use crate::spread::spread_kept;
-use crate::turn::turn_kept;
-use records::Cluster;
+use crate::loads::Running;
 
-// The first of the two faults, if there is one.
-pub fn bound_check(
-    cluster: &Cluster<'_>,
-    places: &Placement,
-    dests: &Destinations,
-) -> Result<(), StepFault>
-    ensures { result ≡ bound_check cluster.now places.now dests.now }
-{
-    let mut in_turn = true;
-    for constraint in cluster.constraints() {
-        if !spread_kept(&constraint, places, dests) {
-            return Err(StepFault::Mate);
+impl Running<'_> {
+    // The first of the two faults, if there is one.
+    pub(crate) fn bound_check(&self) -> Result<(), StepFault>
+        ensures { result ≡ bound_check self.now.cluster.now self.now.places.now self.now.dests.now }
+    {
+        let mut in_turn = true;
+        for constraint in self.cluster.constraints() {
+            if !self.spread_kept(&constraint) {
+                return Err(StepFault::Mate);
+            }
+            in_turn = in_turn && self.turn_kept(&constraint);
         }
-        in_turn = in_turn && turn_kept(cluster, &constraint, places, dests);
-    }
-    if in_turn {
-        Ok(())
-    } else {
-        Err(StepFault::Early)
+        if in_turn {
+            Ok(())
+        } else {
+            Err(StepFault::Early)
+        }
     }
 }

@@ -21,30 +21,25 @@ fn memory_of(cluster: &Cluster<'_>, next: Move) -> u64
 }
 
 // The largest memory of the moves of a step.
-#[tactic(auto, unfolding(crate::specs::Cost::step_cost))]
 fn step_cost(cluster: &Cluster<'_>, step: &Step<'_>) -> u64
     ensures cost { result ≡ step_cost cluster.now step.now }
     ensures most { result < 2 ^ 24 }
 {
-    let mut most = 0;
-    for next in step.moves() {
-        most = most.max(memory_of(cluster, next));
-    }
-    most
+    step.moves()
+        .map(|next| memory_of(cluster, next))
+        .max()
+        .unwrap_or(0)
 }
 
 // The sum over the moves of a step, each its memory and the costs of the steps before.
-#[tactic(auto, using(crate::proofs::Laws::Costs::few_together), unfolding(crate::specs::Inner::moves_cost, records::specs::Base::sum_of))]
 fn step_sum(cluster: &Cluster<'_>, step: &Step<'_>, before: u64) -> u64
     requires { before + 16777215 ≤ 8589934080 }
     ensures sum { result ≡ moves_cost cluster.now before step.now }
     ensures most { result ≤ length step.now * 8589934080 }
 {
-    let mut sum = 0;
-    for next in step.moves() {
-        sum += memory_of(cluster, next) + before;
-    }
-    sum
+    step.moves()
+        .map(|next| memory_of(cluster, next) + before)
+        .sum()
 }
 
 // The cost of a plan.

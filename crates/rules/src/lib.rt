@@ -6,6 +6,7 @@ mod arrays;
 mod bound;
 mod cost;
 mod faults;
+mod loads;
 pub mod packing;
 mod places;
 mod spread;
@@ -25,10 +26,10 @@ pub use verdict::{judged, verdict_on};
 pub use cost::plan_cost;
 
 // The arrays that a call keeps.
-pub use arrays::{ALLOWED, AllowTable, Destinations, NO_MOVE, NODES, Placement, Sums, VMS};
+pub use arrays::{AllowTable, Destinations, NO_MOVE, NODES, Placement, Sums, VMS};
 
-// A node's tally.
-pub use step::loads;
+// A node's tally, and those of all nodes.
+pub use loads::{Running, loads_at_rest};
 pub use tally::{Need, Tally, bears_vm, need_of};
 
 // Placements, destinations and the target.

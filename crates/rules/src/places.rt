@@ -1,9 +1,10 @@
 // Placements: where each VM is, as an array of 256 places.
 ghost use Rattle.std.specs.Prelude.{◌≡◌};
 ghost use Rattle.rules.specs.Moments.{current_of, target_of, after};
-ghost use Rattle.rules.specs.Inner.{array_of};
+ghost use Rattle.std.specs.List.{position};
+ghost use Rattle.rules.specs.Inner.{array_of, on_some_node};
 
-use crate::arrays::{Placement, VMS};
+use crate::arrays::{NODES, Placement, VMS};
 use records::{Cluster, Step};
 
 // Where the VMs are.
@@ -30,12 +31,19 @@ pub fn target_places(cluster: &Cluster<'_>) -> Placement
 
 // Where the VMs are after a step. From an array of NO_MOVE these are its destinations.
 #[tactic(auto, unfolding(crate::specs::Moments::after))]
-pub fn moved(step: &Step<'_>, places: Placement) -> Placement
+pub fn moved(step: &Step<'_>, mut places: Placement) -> Placement
     ensures { result ≡ after places step.now }
 {
-    let mut next = places;
     for m in step.moves() {
-        next[usize::from(m.vm)] = m.to;
+        places[usize::from(m.vm)] = m.to;
     }
-    next
+    places
+}
+
+// Where in a list the first VM stands whose place, or destination, is a node.
+pub fn first_on_node(vms: &[u8], places: &Placement) -> Option<usize>
+    ensures { result ≡ position (on_some_node places.now) vms.now }
+{
+    vms.iter()
+        .position(|v| usize::from(places[usize::from(*v)]) < NODES)
 }

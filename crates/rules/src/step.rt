@@ -2,13 +2,12 @@
 ghost use Rattle.std.specs.Prelude.{◌≡◌, ◌<◌, length};
 ghost use Rattle.records.specs.Room.{IsSound};
 ghost use Rattle.rules.specs.Rules.{aims, named, is_place, sourced, permitted, step_check};
-ghost use Rattle.rules.specs.Inner.{Held, Placed, running_check, held, Ready, Loads, Aimed, Allows, fits_in};
+ghost use Rattle.rules.specs.Inner.{Held, Placed, running_check, held, Aimed, Allows};
 
-use crate::arrays::{AllowTable, Destinations, NO_MOVE, NODES, PLACES, Placement, Sums, VMS};
-use crate::bound::bound_check;
+use crate::arrays::{AllowTable, NO_MOVE, Placement, VMS};
 use crate::faults::StepFault;
+use crate::loads::Running;
 use crate::places::moved;
-use crate::tally::{Tally, bears_vm, need_of};
 use records::{Cluster, NOWHERE, Source, Step};
 
 // Whether VM v can be sent to d: to a node, or to no node if it is wanted there.
@@ -54,61 +53,21 @@ fn is_place(source: Source, place: u8) -> bool
 pub fn well_sourced(step: &Step<'_>, places: &Placement) -> bool
     ensures { result ≡ sourced places.now step.now }
 {
-    for m in step.moves() {
-        if !is_place(m.source, places[usize::from(m.vm)]) {
-            return false;
-        }
-    }
-    true
-}
-
-// The tally of each node with every move running.
-pub fn loads(cluster: &Cluster<'_>, places: &Placement, dests: &Destinations) -> Sums
-    requires { Ready cluster.now places.now dests.now }
-    ensures { Loads cluster.now places.now dests.now result }
-{
-    let mut sums = [Tally::EMPTY; PLACES];
-    for v in 0..cluster.vm_count() {
-        let vm = need_of(cluster, v);
-        let to = usize::from(dests[v]);
-        sums[to] = sums[to].with(vm);
-        let place = usize::from(places[v]);
-        sums[place] = sums[place].with(vm);
-    }
-    sums
-}
-
-// 17: whether each node that is a destination bears its tally, with every move running, for the VM sent there.
-#[tactic(auto, using(crate::proofs::Laws::Fit::aimed_vm, crate::proofs::Laws::Fit::aimed_rest, crate::proofs::Laws::Fit::aimed_off, crate::proofs::Laws::Fit::aimed_on), unfolding(crate::specs::Inner::fits_in, crate::specs::Moments::bears_at, records::specs::Base::all))]
-pub fn fits_running(cluster: &Cluster<'_>, step: &Step<'_>, sums: &Sums) -> bool
-    requires { Aimed cluster.now step.now }
-    ensures { result ≡ fits_in cluster.now sums.now step.now }
-{
-    let nodes = cluster.node_count();
-    for m in step.moves() {
-        let d = usize::from(m.to);
-        if d < nodes && !bears_vm(cluster, d, sums[d], usize::from(m.vm)) {
-            return false;
-        }
-    }
-    true
+    step.moves()
+        .all(|m| is_place(m.source, places[usize::from(m.vm)]))
 }
 
 // 16: whether the table allows each move to a node.
-#[tactic(auto, using(crate::proofs::Laws::Fit::aimed_vm, crate::proofs::Laws::Fit::aimed_rest, crate::proofs::Laws::Fit::aimed_off), unfolding(crate::specs::Rules::permitted, crate::specs::Rules::allowed, records::specs::Base::all, records::specs::Base::pick))]
 pub fn moves_allowed(cluster: &Cluster<'_>, step: &Step<'_>, table: &AllowTable) -> bool
     requires aimed { Aimed cluster.now step.now }
     requires table { Allows cluster.now table.now }
     ensures { result ≡ permitted cluster.now step.now }
 {
     let nodes = cluster.node_count();
-    for m in step.moves() {
+    step.moves().all(|m| {
         let d = usize::from(m.to);
-        if d < nodes && table[usize::from(m.vm) * NODES + d] == 0 {
-            return false;
-        }
-    }
-    true
+        nodes <= d || table[usize::from(m.vm)][d]
+    })
 }
 
 // 17, 18 and 33, of a step that is well named and allowed.
@@ -121,11 +80,15 @@ fn running_check(
     ensures { result ≡ running_check cluster.now (held cluster.now places.now) step.now }
 {
     let dests = moved(step, [NO_MOVE; VMS]);
-    let sums = loads(cluster, places, &dests);
-    if !fits_running(cluster, step, &sums) {
+    let running = Running {
+        cluster,
+        places,
+        dests: &dests,
+    };
+    if !running.fits(step) {
         return Err(StepFault::Misfit);
     }
-    bound_check(cluster, places, &dests)
+    running.bound_check()
 }
 
 // The first fault of a step, from a placement copied for it.

@@ -1,18 +1,18 @@
 // The target of a cluster: refusals 8 and 9; and whether a placement is the target (19).
-ghost use Rattle.std.specs.Prelude.{◌≡◌};
+ghost use Rattle.std.specs.Prelude.{◌≡◌, ◌||◌};
 ghost use Rattle.records.specs.Base.{all};
 ghost use Rattle.records.specs.Room.{IsSound, vms_of, groups_of};
 ghost use Rattle.rules.specs.Orders.{some};
 ghost use Rattle.rules.specs.Rules.{fits_all, target_check};
 ghost use Rattle.rules.specs.Verdict.{home};
-ghost use Rattle.rules.specs.Inner.{held, clear_of, group_holds, keeps_in};
+ghost use Rattle.rules.specs.Inner.{held, clear_of, all_down, group_holds, keeps_in};
 
-use crate::allow::{stops, stops_of};
-use crate::arrays::{NO_MOVE, NODES, Nodes, PLACES, Placement, VMS};
+use crate::allow::{all_but, only};
+use crate::arrays::{NODES, Nodes, PLACES, Placement};
 use crate::faults::TargetFault;
-use crate::places::target_places;
-use crate::spread::{all_down, arrive_apart};
-use crate::step::loads;
+use crate::loads::loads_at_rest;
+use crate::places::{first_on_node, target_places};
+use crate::spread::arrive_apart;
 use crate::tally::within_node;
 use records::{Cluster, Constraint, Kind};
 
@@ -21,40 +21,38 @@ fn places_fit(cluster: &Cluster<'_>, places: &Placement) -> bool
     ensures is { result ≡ fits_all cluster.now (held cluster.now places.now) }
     ensures sound { IsSound cluster.now }
 {
-    let nodes = cluster.node_count();
-    let dests = [NO_MOVE; VMS];
-    let sums = loads(cluster, places, &dests);
-    for d in 0..nodes {
-        if !within_node(cluster, d, sums[d]) {
-            return false;
-        }
-    }
-    true
+    let sums = loads_at_rest(cluster, places);
+    (0..cluster.node_count()).all(|d| within_node(cluster, d, sums[d]))
 }
 
 // Whether none of the VMs is on a stopped node.
 fn list_clear(vms: &[u8], stop: &Nodes, places: &Placement) -> bool
     ensures { result ≡ clear_of stop.now places.now vms.now }
 {
-    for &v in vms {
-        let place = usize::from(places[usize::from(v)]);
-        if place < NODES && stop[place] {
-            return false;
-        }
-    }
-    true
+    vms.iter().all(|v| {
+        let place = usize::from(places[usize::from(*v)]);
+        NODES <= place || !stop[place]
+    })
 }
 
-// Whether some group of a latency constraint has all of its VMs that are on a node.
-fn some_group_holds(constraint: &Constraint<'_>, places: &Placement) -> bool
-    ensures { result ≡ some (group_holds places.now (vms_of constraint.now)) (groups_of constraint.now) }
+// Whether some group of a latency constraint has all of these VMs that are on a node.
+fn some_group_holds(constraint: &Constraint<'_>, vms: &[u8], places: &Placement) -> bool
+    ensures { result ≡ some (group_holds places.now vms.now) (groups_of constraint.now) }
 {
-    for group in constraint.groups() {
-        if list_clear(constraint.vms(), &stops(group, false), places) {
-            return true;
-        }
+    constraint
+        .groups()
+        .any(|group| list_clear(vms, &all_but(group), places))
+}
+
+// Whether none of the VMs of a latency constraint is on a node, or some group has all that are. The first of these leaves out most groups at once.
+fn together(constraint: &Constraint<'_>, places: &Placement) -> bool
+    ensures { result ≡ (all_down places.now (vms_of constraint.now) || some (group_holds places.now (vms_of constraint.now)) (groups_of constraint.now)) }
+{
+    let vms = constraint.vms();
+    match first_on_node(vms, places) {
+        Some(first) => some_group_holds(constraint, &vms[first..], places),
+        None => true,
     }
-    false
 }
 
 // 9: whether the places keep a constraint.
@@ -62,9 +60,11 @@ fn kept(constraint: &Constraint<'_>, places: &Placement) -> bool
     ensures { result ≡ keeps_in places.now constraint.now }
 {
     match constraint.kind() {
-        Kind::Ban | Kind::Fence => list_clear(constraint.vms(), &stops_of(constraint), places),
+        Kind::Ban => list_clear(constraint.vms(), &only(constraint.nodes()), places),
+        Kind::Fence => list_clear(constraint.vms(), &all_but(constraint.nodes()), places),
         Kind::Spread => arrive_apart(constraint.vms(), &mut [false; PLACES], places),
-        Kind::Latency => all_down(constraint.vms(), places) || some_group_holds(constraint, places),
+        Kind::Latency => together(constraint, places),
+        // Nothing is asked of a placement.
         Kind::Before => true,
     }
 }

@@ -59,7 +59,7 @@ impl SplitFault {
     {
         match self {
             SplitFault::Check(fault) => fault.step(),
-            _ => 0,
+            SplitFault::Buffer | SplitFault::TooMany => 0,
         }
     }
 }
@@ -71,8 +71,6 @@ pub fn pack(outcome: Outcome) -> u64
 {
     match outcome {
         Outcome::Done(divided) => divided.steps * STEPS + divided.cost,
-        Outcome::Refused(fault) => packing::REFUSED
-            + fault.number() * packing::NUMBER
-            + fault.step() as u64,
+        Outcome::Refused(fault) => packing::refused(fault.number(), fault.step()),
     }
 }

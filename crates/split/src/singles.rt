@@ -19,8 +19,8 @@ fn put_step(step: &Step<'_>, out: &mut [u8], start: usize) -> usize
     ensures { PutSteps (singles step.now) start out.old out.new result }
 {
     let mut end = start;
-    for i in 0..step.len() {
-        end = records::append_single(out, end, step.get(i));
+    for step_move in step.moves() {
+        end = records::append_single(out, end, step_move);
     }
     end
 }
@@ -31,7 +31,7 @@ fn put_steps(plan: &Plan<'_>, out: &mut [u8]) -> usize
     requires long { least_split ≤ length out.old }
     ensures { PutSteps (all_singles plan.now) 7 out.old out.new result }
 {
-    let mut end = 7;
+    let mut end = records::FIRST_STEP;
     for step in plan.steps() {
         end = put_step(&step, out, end);
     }

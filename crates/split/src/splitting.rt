@@ -9,11 +9,8 @@ use crate::outcome::{Divided, Outcome, SplitFault};
 use crate::singles::{moves_in, write_singles};
 use records::{Cluster, Plan};
 
-// The least buffer that is taken, whatever the plan's version: 7 + 512 × 5. No longer record comes out.
-pub const LEAST_BUFFER: usize = 2567;
-
-// The most steps that a plan can have.
-const MOST_STEPS: usize = 512;
+// The least buffer that is taken, whatever the plan's version: a step of one move has five bytes at most. No longer record comes out.
+pub const LEAST_BUFFER: usize = records::FIRST_STEP + records::MOST_STEPS * 5;
 
 // Writes the record and tells its steps and its cost, for moves that are few enough and a buffer that is long enough. The plan's bytes say its version,
 // which a view forgets.
@@ -47,7 +44,7 @@ fn split_plan(
     if out.len() < LEAST_BUFFER {
         return Err(SplitFault::Buffer);
     }
-    if MOST_STEPS < moves {
+    if records::MOST_STEPS < moves {
         return Err(SplitFault::TooMany);
     }
     Ok(divided(&Cluster::whole(reserve, cluster), plan, moves, out))
@@ -57,8 +54,5 @@ fn split_plan(
 pub fn outcome_of(reserve: u64, cluster: &[u8], plan: &[u8], out: &mut [u8]) -> Outcome
     ensures { Splits reserve cluster.now plan.now out.old out.new result }
 {
-    match split_plan(reserve, cluster, plan, out) {
-        Ok(divided) => Outcome::Done(divided),
-        Err(fault) => Outcome::Refused(fault),
-    }
+    split_plan(reserve, cluster, plan, out).map_or_else(Outcome::Refused, Outcome::Done)
 }

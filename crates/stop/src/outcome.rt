@@ -51,7 +51,7 @@ impl StopFault {
     {
         match self {
             StopFault::Check(fault) => fault.step(),
-            _ => 0,
+            StopFault::NoStep | StopFault::BadMark | StopFault::Buffer => 0,
         }
     }
 }
@@ -63,8 +63,6 @@ pub fn pack(outcome: Outcome) -> u64
 {
     match outcome {
         Outcome::Done(size) => size as u64,
-        Outcome::Refused(fault) => packing::REFUSED
-            + fault.number() * packing::NUMBER
-            + fault.step() as u64,
+        Outcome::Refused(fault) => packing::refused(fault.number(), fault.step()),
     }
 }

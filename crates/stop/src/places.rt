@@ -16,6 +16,7 @@ fn places_before(cluster: &Cluster<'_>, plan: &Plan<'_>, n: usize) -> Placement
 {
     let mut places = current_places(cluster);
     for step in plan.steps().take(n) {
+        // By way of `next`: over `take(n)` the borrow check does not cover a call's result laid in an array that is lent.
         let next = moved(&step, places);
         places = next;
     }
@@ -24,16 +25,15 @@ fn places_before(cluster: &Cluster<'_>, plan: &Plan<'_>, n: usize) -> Placement
 
 // Where they are with the moves of a step that are marked as ended.
 #[tactic(auto, unfolding(crate::specs::Stops::ended_moves, rules::specs::Moments::after))]
-fn places_marked(step: &Step<'_>, marks: &[u8], places: Placement) -> Placement
+fn places_marked(step: &Step<'_>, marks: &[u8], mut places: Placement) -> Placement
     ensures { result ≡ after places (ended_moves step.now marks.now) }
 {
-    let mut next = places;
     for (ended, mark) in step.moves().zip(marks) {
         if *mark == 1 {
-            next[usize::from(ended.vm)] = ended.to;
+            places[usize::from(ended.vm)] = ended.to;
         }
     }
-    next
+    places
 }
 
 // 20: the step behind the first n, if the plan has it and it has as many moves as there are marks.
@@ -61,9 +61,7 @@ pub fn stopped_places(
     ensures { result ≡ stopped_places cluster.now plan.now number marks.now }
 {
     let before = number.checked_sub(1).ok_or(StopFault::NoStep)? as usize;
-    let Some(step) = marked_step(plan, before, marks) else {
-        return Err(StopFault::NoStep);
-    };
+    let step = marked_step(plan, before, marks).ok_or(StopFault::NoStep)?;
     if !marks_sound(marks) {
         return Err(StopFault::BadMark);
     }

@@ -39,8 +39,5 @@ pub fn outcome_of(
 ) -> Outcome
     ensures { Stops reserve cluster.now plan.now step marks.now out.old out.new result }
 {
-    match stopped(reserve, cluster, plan, step, marks, out) {
-        Ok(length) => Outcome::Done(length),
-        Err(fault) => Outcome::Refused(fault),
-    }
+    stopped(reserve, cluster, plan, step, marks, out).map_or_else(Outcome::Refused, Outcome::Done)
 }

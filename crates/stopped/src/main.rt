@@ -21,7 +21,7 @@ fn stop_in<'a, R: Files + Print>(
     marks: &[u8],
     file: &'a Argument,
 ) -> Result<(), Trouble<'a>> {
-    let mut out = [0u8; 65536];
+    let mut out = [0u8; files::MOST_KEPT];
     match stop::outcome_of(reserve, cluster, plan, step, marks, &mut out) {
         Outcome::Done(length) => {
             files::save(rt, file, files::front(&out, length))?;
@@ -40,8 +40,8 @@ fn run<'a, R: Files + Print>(rt: &R, arguments: &'a [Argument]) -> Result<(), Tr
     let reserve = files::reserve(rest, USAGE)?;
     let step = files::number("the step", step)?;
     let marks = files::digits("the marks", marks)?;
-    let mut first = [0u8; 65536];
-    let mut second = [0u8; 65536];
+    let mut first = [0u8; files::MOST_KEPT];
+    let mut second = [0u8; files::MOST_KEPT];
     let (cluster, plan) = files::load(rt, cluster, plan, &mut first, &mut second)?;
     stop_in(rt, reserve, cluster, plan, step, marks.text(), file)
 }

@@ -24,8 +24,8 @@ fn run<'a, R: Files + Print>(rt: &R, arguments: &'a [Argument]) -> Result<(), Tr
         return Err(Trouble::WrongUse(USAGE));
     };
     let reserve = files::reserve(rest, USAGE)?;
-    let mut first = [0u8; 65536];
-    let mut second = [0u8; 65536];
+    let mut first = [0u8; files::MOST_KEPT];
+    let mut second = [0u8; files::MOST_KEPT];
     let (cluster, plan) = files::load(rt, cluster, plan, &mut first, &mut second)?;
     judge(rt, reserve, cluster, plan);
     Ok(())

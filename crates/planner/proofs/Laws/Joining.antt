@@ -1,5 +1,5 @@
 -- Laws on a move that is added to a step held as an array of destinations: the test at its destination is the test of the whole step.
-use Prim.Native.Nat.{ℕ, ◌+◌, ◌*◌, ◌≤◌, ◌<◌}
+use Prim.Native.Nat.{ℕ, ◌+◌, ◌≤◌, ◌<◌}
 use mathlib.Core.Bool.{Bool, true, false, not, ◌&&◌, and-true}
 use mathlib.Core.List.{List, [], ◌∷◌, ◌++◌}
 use mathlib.Core.Logic.{by_cases}
@@ -10,7 +10,7 @@ use lib.ListN.{length, get_or, set}
 use lib.Seq.{set_comm}
 use lib.Dec.{ltb, eqb}
 use borrow.Author.Tests.{ltb-true, lt-ltb, eq-eqb, ne_eqb}
-use Rattle.records.specs.Base.{pick, all}
+use Rattle.records.specs.Base.{all}
 use Rattle.records.specs.Room.{Room, IsSound, vm_of, node_of, place_ok}
 use Rattle.records.specs.Plan.{Step}
 use Rattle.records.proofs.Laws.Bools.{all_head, all_tail}
@@ -72,39 +72,28 @@ module _ (room : Room) (places dests : List ℕ) (here : Tally) (v d : ℕ) wher
       unfolding joins_in allowed bears_at meets_mate
       join-off w a n h = rw (leaves, far-off (length room.nodes) d w.nodes-most a h, unmarked-free room places marks v m t n)
 
-    module _ (table : List ℕ) (a : Allows room table) (w : IsSound room) (t : v < length room.vms) (n : d < length room.nodes) where
-      marked : get_or table (v * 64 + d) 0 ≡ pick (allowed room v d) 1 0
+    module _ (table : List (List Bool)) (a : Allows room table) (w : IsSound room) (t : v < length room.vms) (n : d < length room.nodes) where
+      marked : get_or (get_or table v []) d false ≡ allowed room v d
       marked = let b = w.nodes-most in a.each v d t (omega arith)
 
-      pub join_kept : get_or table (v * 64 + d) 0 ≡ 0 → false ≡ joins_in room places dests here v d
+      pub join_kept : get_or (get_or table v []) d false ≡ false → false ≡ joins_in room places dests here v d
       unfolding joins_in
-      join_kept z = go (allowed room v d) refl
-        where
-          go : (x : Bool) → allowed room v d ≡ x → false ≡ joins_in room places dests here v d
-          go true q = absurd (let k : get_or table (v * 64 + d) 0 ≡ 1 = marked ∙ ap (λ (b : Bool). pick b 1 0) q in omega arith)
-          go false q = rw (leaves, q)
+      join_kept z = rw (leaves, sym marked ∙ z)
 
-      is-allowed : (get_or table (v * 64 + d) 0 ≡ 0 → ⊥) → allowed room v d ≡ true
-      is-allowed z = go (allowed room v d) refl
-        where
-          go : (x : Bool) → allowed room v d ≡ x → allowed room v d ≡ true
-          go true q = q
-          go false q = absurd (z (marked ∙ ap (λ (b : Bool). pick b 1 0) q))
-
-      module _ (z : get_or table (v * 64 + d) 0 ≡ 0 → ⊥) (ok : Bool)
+      module _ (z : get_or (get_or table v []) d false ≡ true) (ok : Bool)
           (o : ok ≡ bears (node_of room d) (with_vm here (vm_of room v)) (vm_of room v)) where
         bears-is : bears_at room d (with_vm here (vm_of room v)) (vm_of room v) ≡ ok
         bears-is = at-node room d (with_vm here (vm_of room v)) (vm_of room v) (node-on (length room.nodes) d w.nodes-most n) ∙ sym o
 
         pub join-full : ok ≡ false → false ≡ joins_in room places dests here v d
         unfolding joins_in
-        join-full q = rw (leaves, is-allowed z, bears-is ∙ q)
+        join-full q = rw (leaves, sym marked ∙ z, bears-is ∙ q)
 
         pub join-met : (met : Bool) (marks : List Bool) → met ≡ meets_mate room (busy_from places dests 0 (length room.vms)) v d → Waiting room places marks → get_or marks v false ≡ false → ok ≡ true →
             not met ≡ joins_in room places dests here v d
         unfolding joins_in
         join-met met marks x m f q =
-            rw (leaves, is-allowed z, bears-is ∙ q, x, unmarked-free room places marks v m t f)
+            rw (leaves, sym marked ∙ z, bears-is ∙ q, x, unmarked-free room places marks v m t f)
             (sym (and-true (not (meets_mate room (busy_from places dests 0 (length room.vms)) v d))))
 
 -- ---- the step with one move more

@@ -1,9 +1,10 @@
 -- Laws on the search for a pivot: moves of one VM alone, the first node and the first VM that will do.
-use Prim.Native.Nat.{ℕ, ◌+◌, ◌-◌, ◌≤◌, ◌<◌}
-use mathlib.Core.Bool.{Bool, true, false, cond, not, ◌&&◌, ◌||◌, false≢true}
+use Prim.Native.Nat.{ℕ, zero, suc, ◌+◌, ◌-◌, ◌≤◌, ◌<◌}
+use mathlib.Core.Bool.{Bool, true, false, not, ◌&&◌, ◌||◌, false≢true}
 use mathlib.Core.List.{List, [], ◌∷◌}
 use mathlib.Core.Path.{◌≡◌, refl, sym, ap, ap₂, ◌∙◌}
 use native.Mathlib.Nat.{sub-zero}
+use native.Mathlib.Numerals.{add-one}
 use native.Mathlib.Omega.{arith}
 use lib.ListN.{length, get_or, set, replicate}
 use lib.Seq.{length-take-le}
@@ -11,6 +12,7 @@ use lib.Dec.{eqb}
 use borrow.Author.Tests.{eq-eqb, ne_eqb, eqb-false, not-true}
 use Rattle.std.specs.Prelude.{Option, Some, None}
 use Rattle.std.specs.Bool.{then_some}
+use Rattle.std.specs.List.{find, list_any, range_with_len}
 use Rattle.records.specs.Base.{all}
 use Rattle.records.specs.Room.{Room, IsSound, vm_of, on_node}
 use Rattle.records.specs.Plan.{Step}
@@ -96,45 +98,26 @@ module _ (room : Room) (places : List ℕ) (v p u t : ℕ) (e : t ≡ (vm_of roo
     unfolding comer
     comer-goes r f o = f ∙ sound-goes room (held room places) u p (target_is ∙ q) ∙ rw (target_is, eq-eqb t p q, ne_eqb u v o)
 
--- ---- the first node
+-- ---- the first node, and some VM that comes
 
-module _ (room : Room) (places : List ℕ) (v d : ℕ) (result : Option ℕ) (inv : pivot_node room (held room places) v (from d (length room.nodes - d)) ≡ result) where
-  pub node_end : length room.nodes ≤ d → None ≡ result
-  unfolding pivot_node
-  node_end h = rw (left-none (length room.nodes) d h) at inv
+-- the numbers of a range, in the two forms
+range-from : (v n : ℕ) → range_with_len v n ≡ from v n
+unfolding from
+range-from v zero = refl
+range-from v (suc n) = let rest : range_with_len (v + 1) n ≡ from (suc v) n = rw (add-one v) (range-from (suc v) n) in rw rest refl
 
-  module _ (ok : Bool) (e : ok ≡ aside room (held room places) v d) (h : d < length room.nodes) where
-    node-opened : cond ok (Some d) (pivot_node room (held room places) v (from (d + 1) (length room.nodes - (d + 1)))) ≡ result
-    unfolding pivot_node
-    node-opened = rw e (rw (left-cons (length room.nodes) d h) at inv)
+pub nodes-ranged : (room : Room) (places : Placement) (v : ℕ) → find (aside room places v) (range_with_len 0 (length room.nodes)) ≡ pivot_node room places v (nodes_in room)
+unfolding pivot_node
+nodes-ranged room places v = ap (find (aside room places v)) (range-from 0 (length room.nodes))
 
-    pub node-found : ok ≡ true → Some d ≡ result
-    node-found q = rw q at node-opened
+any-some : (p : ℕ → Bool) (us : List ℕ) → list_any p us ≡ some p us
+unfolding some
+any-some p [] = refl
+any-some p (u ∷ us) = ap (λ b. p u || b) (any-some p us)
 
-    pub node-more : ok ≡ false → pivot_node room (held room places) v (from (d + 1) (length room.nodes - (d + 1))) ≡ result
-    node-more q = rw q at node-opened
-
--- ---- some VM that comes
-
-pub comes-start : (room : Room) (places : List ℕ) (v p : ℕ) →
-    comes_to room (held room places) v p (from 0 (length room.vms - 0)) ≡ comes_to room (held room places) v p (vms_in room)
-comes-start room places v p = rw (sub-zero (length room.vms))
-
-module _ (room : Room) (places : List ℕ) (v p u : ℕ) (result : Bool) (inv : comes_to room (held room places) v p (from u (length room.vms - u)) ≡ result) where
-  pub comes-none : length room.vms ≤ u → false ≡ result
-  unfolding comes_to some
-  comes-none h = rw (left-none (length room.vms) u h) at inv
-
-  module _ (ok : Bool) (e : ok ≡ comer room (held room places) v p u) (h : u < length room.vms) where
-    comes-opened : (ok || comes_to room (held room places) v p (from (u + 1) (length room.vms - (u + 1)))) ≡ result
-    unfolding comes_to some
-    comes-opened = rw e (rw (left-cons (length room.vms) u h) at inv)
-
-    pub comes-found : ok ≡ true → true ≡ result
-    comes-found q = rw q at comes-opened
-
-    pub comes-more : ok ≡ false → comes_to room (held room places) v p (from (u + 1) (length room.vms - (u + 1))) ≡ result
-    comes-more q = rw q at comes-opened
+pub vms-ranged : (room : Room) (places : Placement) (v p : ℕ) → list_any (comer room places v p) (range_with_len 0 (length room.vms)) ≡ comes_to room places v p (vms_in room)
+unfolding comes_to
+vms-ranged room places v p = rw (range-from 0 (length room.vms)) (any-some (comer room places v p) (vms_in room))
 
 -- ---- the useful pivot of one VM
 

@@ -5,6 +5,7 @@ use mathlib.Core.List.{List, [], ◌∷◌, ◌++◌}
 use mathlib.Core.Path.{◌≡◌, refl, sym, ap, ◌∙◌}
 use native.Mathlib.Omega.{arith}
 use lib.ListN.{length, get_or}
+use Rattle.std.specs.List.{list_all}
 use Rattle.records.specs.Base.{pick, all}
 
 pub and_left : (a b : Bool) → (a && b) ≡ true → a ≡ true
@@ -43,18 +44,11 @@ module _ {A : Type 0} (p : A → Bool) where
   all-at (x ∷ xs) zero d e h = all_head x xs e
   all-at (x ∷ xs) (suc i) d e h = all-at xs i d (all_tail x xs e) (omega arith)
 
-  -- the turns of a pass over a list, at its first element
-  pub all-not : (x : A) (xs ys : List A) (ok result : Bool) → ys ≡ x ∷ xs → ok ≡ p x → ok ≡ false → all p ys ≡ result → false ≡ result
+  -- a test of every element in std's word
+  pub all-listed : (xs : List A) → list_all p xs ≡ all p xs
   unfolding all
-  all-not x xs ys ok result e f o inv = sym (ap (λ (b : Bool). b && all p xs) (sym f ∙ o)) ∙ sym (ap (all p) e) ∙ inv
-
-  pub all-next : (x : A) (xs ys : List A) (ok result : Bool) → ys ≡ x ∷ xs → ok ≡ p x → ok ≡ true → all p ys ≡ result → all p xs ≡ result
-  unfolding all
-  all-next x xs ys ok result e f o inv = sym (ap (λ (b : Bool). b && all p xs) (sym f ∙ o)) ∙ sym (ap (all p) e) ∙ inv
-
-  pub all-none : (ys : List A) (result : Bool) → ys ≡ [] → all p ys ≡ result → true ≡ result
-  unfolding all
-  all-none ys result e inv = sym (ap (all p) e) ∙ inv
+  all-listed [] = refl
+  all-listed (x ∷ xs) = ap (λ (b : Bool). p x && b) (all-listed xs)
 
   pub all_append : (xs ys : List A) → all p (xs ++ ys) ≡ (all p xs && all p ys)
   unfolding all

@@ -1,14 +1,15 @@
 -- Laws on the groups of a latency constraint: marking the nodes passed finds exactly the node that stands in two groups.
 use Prim.Native.Nat.{ℕ, zero, suc, ◌+◌, ◌-◌, ◌≤◌, ◌<◌}
-use mathlib.Core.Bool.{Bool, true, false, not, ◌&&◌, ◌||◌, and-false, or-true}
+use mathlib.Core.Bool.{Bool, true, false, not, ◌&&◌, ◌||◌, and-false, and_assoc, or-true}
 use mathlib.Core.List.{List, [], ◌∷◌}
 use mathlib.Core.Logic.{by_cases}
 use mathlib.Core.Path.{◌≡◌, refl, sym, ap, ◌∙◌}
 use native.Mathlib.Decide.{dec_lt, ℕ_discrete}
 use native.Mathlib.Numerals.{add-one}
 use native.Mathlib.Omega.{arith}
-use lib.ListN.{length, get_or, set, take, drop, drop_of_length-le, length-set, length-replicate, get_or-replicate, get_or-eq_default}
+use lib.ListN.{length, get_or, set, drop, drop_of_length-le, length-set, length-replicate, get_or-replicate, get_or-eq_default}
 use lib.Seq.{get_or-set_same, get_or-set_other}
+use Rattle.std.proofs.lemmas.List.{drop-drop}
 use lib.Dec.{leb, eqb}
 use borrow.Author.Tests.{eq-eqb, ne_eqb, le-leb, lt-leb, leb-true, leb-false}
 use Rattle.std.specs.Prelude.{Option, Some, None}
@@ -16,23 +17,10 @@ use Rattle.records.specs.Base.{pick, all}
 use Rattle.records.specs.Bytes.{byte_at}
 use Rattle.records.specs.Room.{list_ok, nodes_at, nodes_end, groups_from, groups_end, has, disjoint, apart}
 use Rattle.records.specs.Inner.{Below, unmarked, listed, unseen_in, marked_in, group_at, Grouped, groups_read}
-use Rattle.records.proofs.Laws.Bools.{and_left, all_same, all-and, all_true}
-use Rattle.records.proofs.Laws.Lists.{at_i, listed-pick, found, found-list, list-below}
+use Rattle.records.proofs.Laws.Bools.{all_same, all-and, all_true}
+use Rattle.records.proofs.Laws.Lists.{at_i, groups-behind, end-behind, within-behind, found, not-found, list-below}
 
--- ---- the turns of the two passes, at element i of l
-
-module _ (i d : ℕ) (seen : List Bool) (l : List ℕ) (result : Bool) (e : d ≡ get_or l i 0) (inv : unseen_in seen (drop i l) ≡ result) (h : i < length l) where
-  pub unseen-not : get_or seen d false ≡ true → false ≡ result
-  unfolding unseen_in all
-  unseen-not n = simp (at_i l i d e h, n) at inv
-
-  pub unseen-more : get_or seen d false ≡ false → unseen_in seen (drop (i + 1) l) ≡ result
-  unfolding unseen_in all
-  unseen-more z = rw add-one (simp (at_i l i d e h, z) at inv)
-
-pub unseen-end : (i : ℕ) (seen : List Bool) (l : List ℕ) (result : Bool) → unseen_in seen (drop i l) ≡ result → length l ≤ i → true ≡ result
-unfolding unseen_in all
-unseen-end i seen l result inv h = rw (drop_of_length-le l h) at inv
+-- ---- the turns of the pass that marks, at element i of l
 
 pub mark-more : (i d : ℕ) (seen : List Bool) (l : List ℕ) (result : List Bool) → d ≡ get_or l i 0 → marked_in seen (drop i l) ≡ result → i < length l →
     marked_in (set seen d true) (drop (i + 1) l) ≡ result
@@ -45,102 +33,85 @@ mark-end i seen l result inv h = rw (drop_of_length-le l h) at inv
 
 -- ---- one group
 
-pub found_below : (limit first n end : ℕ) (p : List ℕ) (r : Option ℕ) → r ≡ listed limit p first n → r ≡ Some end → limit ≤ 64 →
-    Below 64 (take (end - first) (drop first p))
-found_below limit first n end p r f g h = rw (found-list limit first n end p r f g) (list-below limit 64 (take n (drop first p)) (found limit first n end p r f g).sound h (omega arith))
+pub found_below : (limit first n : ℕ) (rest : List ℕ) (r : Option (List ℕ × List ℕ)) → r ≡ listed limit rest first n →
+    (list behind : List ℕ) → r ≡ Some (list, behind) → limit ≤ 64 → Below 64 list
+found_below limit first n rest r f list behind g h =
+    let w = found limit first n rest r f list behind g in
+    list-below limit 64 list (ap (list_ok limit) w.is ∙ w.sound) h (omega arith)
 
-module _ (limit at : ℕ) (seen : List Bool) (p : List ℕ) (r : Option ℕ) (f : r ≡ listed limit p (at + 1) (byte_at p at)) where
-  group-pick : (a b c : Bool) → leb (at + 1 + byte_at p at) (length p) ≡ a → list_ok limit (take (byte_at p at) (drop (at + 1) p)) ≡ b →
-      unseen_in seen (take (byte_at p at) (drop (at + 1) p)) ≡ c →
-      group_at limit seen p at ≡ pick (a && (b && c)) (Some (at + 1 + byte_at p at)) None
-  unfolding group_at nodes_at
-  group-pick a b c x y z = simp (x, y, z)
+module _ (limit : ℕ) (seen : List Bool) (rest : List ℕ) where
+  -- the test by which it is taken
+  test : Bool
+  test = leb (nodes_end rest 0) (length rest) && (list_ok limit (nodes_at rest 0) && unseen_in seen (nodes_at rest 0))
 
-  pub group-bad : (after : List Bool) → r ≡ None → Grouped limit seen p at None after
-  group-bad after g = record { is = go (leb (at + 1 + byte_at p at) (length p)) (list_ok limit (take (byte_at p at) (drop (at + 1) p))) refl refl; marks = λ e. never e }
-    where
-      never : {A : Type 0} {e : ℕ} → None ≡ Some e → A
-      never e = let z : ◌≡◌ {A = ℕ} 0 1 = cc in absurd (omega arith)
+  left-out : (after : List Bool) → test ≡ false → Grouped limit seen rest None after
+  unfolding group_at test
+  left-out after e =
+      record {
+        is = sym (ap (λ (b : Bool). pick b (Some (drop (nodes_end rest 0) rest)) None) e);
+        marks = λ f. let z : ◌≡◌ {A = ℕ} 0 1 = cc in absurd (omega arith);
+      }
 
-      go : (a b : Bool) → leb (at + 1 + byte_at p at) (length p) ≡ a → list_ok limit (take (byte_at p at) (drop (at + 1) p)) ≡ b →
-          None ≡ group_at limit seen p at
-      go true true x y = never (sym g ∙ f ∙ listed-pick limit (at + 1) (byte_at p at) p true true x y)
-      go true false x y = sym (group-pick true false (unseen_in seen (take (byte_at p at) (drop (at + 1) p))) x y refl)
-      go false b x y = sym (group-pick false b (unseen_in seen (take (byte_at p at) (drop (at + 1) p))) x y refl)
+  module _ (r : Option (List ℕ × List ℕ)) (f : r ≡ listed limit rest 1 (byte_at rest 0)) where
+    pub group-bad : (after : List Bool) → r ≡ None → Grouped limit seen rest None after
+    unfolding test nodes_at
+    group-bad after g =
+        left-out after
+        (sym (and_assoc (leb (nodes_end rest 0) (length rest)) (list_ok limit (nodes_at rest 0)) (unseen_in seen (nodes_at rest 0))) ∙ ap (λ (b : Bool). b && unseen_in seen (nodes_at rest 0)) (not-found limit 1 (byte_at rest 0) rest r f g))
 
-  module _ (end : ℕ) (ok : Bool) (g : r ≡ Some end) (u : ok ≡ unseen_in seen (take (end - (at + 1)) (drop (at + 1) p))) where
-    same : take (end - (at + 1)) (drop (at + 1) p) ≡ take (byte_at p at) (drop (at + 1) p)
-    same = found-list limit (at + 1) (byte_at p at) end p r f g
+    module _ (list behind : List ℕ) (g : r ≡ Some (list, behind)) (ok : Bool) (u : ok ≡ unseen_in seen list) where
+      tested : test ≡ ok
+      unfolding test nodes_at
+      tested =
+          let w = found limit 1 (byte_at rest 0) rest r f list behind g in
+          simp (le-leb (1 + byte_at rest 0) (length rest) w.fits, w.sound) (sym (u ∙ ap (unseen_in seen) w.is))
 
-    picked : group_at limit seen p at ≡ pick (true && (true && ok)) (Some (at + 1 + byte_at p at)) None
-    picked =
-        let w = found limit (at + 1) (byte_at p at) end p r f g in
-        group-pick true true ok (le-leb (at + 1 + byte_at p at) (length p) w.fits) w.sound (sym (u ∙ ap (unseen_in seen) same))
+      pub group-old : (after : List Bool) → ok ≡ false → Grouped limit seen rest None after
+      group-old after o = left-out after (tested ∙ o)
 
-    pub group-old : (after : List Bool) → ok ≡ false → Grouped limit seen p at None after
-    group-old after o =
-        record {
-          is = sym (picked ∙ ap (λ (b : Bool). pick b (Some (at + 1 + byte_at p at)) None) o);
-          marks = λ e. let z : ◌≡◌ {A = ℕ} 0 1 = cc in absurd (omega arith);
-        }
-
-    pub group-new : (after : List Bool) → after ≡ marked_in seen (take (end - (at + 1)) (drop (at + 1) p)) → ok ≡ true →
-        Grouped limit seen p at (Some end) after
-    unfolding nodes_at
-    group-new after m o =
-        record {
-          is = ap Some (found limit (at + 1) (byte_at p at) end p r f g).ends ∙ sym (picked ∙ ap (λ (b : Bool). pick b (Some (at + 1 + byte_at p at)) None) o);
-          marks = λ e. m ∙ ap (marked_in seen) same;
-        }
+      pub group-new : (after : List Bool) → after ≡ marked_in seen list → ok ≡ true → Grouped limit seen rest (Some behind) after
+      unfolding group_at test nodes_at
+      group-new after m o =
+          let w = found limit 1 (byte_at rest 0) rest r f list behind g in
+          record {
+            is = ap Some w.behind-is ∙ sym (ap (λ (b : Bool). pick b (Some (drop (nodes_end rest 0) rest)) None) (tested ∙ o));
+            marks = λ e. m ∙ ap (marked_in seen) w.is;
+          }
 
 -- ---- the turns of the pass over the groups
 
-module _ (limit at end : ℕ) (seen : List Bool) (p : List ℕ) (after : List Bool) (r : Option ℕ) (d : Grouped limit seen p at r after) where
-  -- the test by which a group is taken
-  test : Bool
-  test = leb (nodes_end p at) (length p) && (list_ok limit (nodes_at p at) && unseen_in seen (nodes_at p at))
+module _ (limit : ℕ) (seen : List Bool) (rest : List ℕ) (after : List Bool) (r : Option (List ℕ)) (d : Grouped limit seen rest r after)
+    (left : ℕ) (result : Option (List ℕ)) (inv : groups_read limit rest seen left ≡ result) (z : 0 < left) where
+  turned-is : (b : Bool) → test limit seen rest ≡ b →
+      (r ≡ pick b (Some (drop (nodes_end rest 0) rest)) None) ×
+      (pick b (groups_read limit (drop (nodes_end rest 0) rest) (marked_in seen (nodes_at rest 0)) (left - 1)) None ≡ result)
+  unfolding group_at test groups_read
+  turned-is b e =
+      let q : left ≡ suc (left - 1) = omega arith in (
+        d.is ∙ ap (λ (t : Bool). pick t (Some (drop (nodes_end rest 0) rest)) None) e,
+        sym (ap (λ (t : Bool). pick t (groups_read limit (drop (nodes_end rest 0) rest) (marked_in seen (nodes_at rest 0)) (left - 1)) None) e) ∙ (rw q at inv),
+      )
 
-  decided : (b : Bool) → test ≡ b → r ≡ pick b (Some (nodes_end p at)) None
-  unfolding group_at test
-  decided b e = d.is ∙ ap (λ (t : Bool). pick t (Some (nodes_end p at)) None) e
-
-  taken : r ≡ Some end → (test ≡ true) × (end ≡ nodes_end p at)
-  taken g = go test refl
+  pub groups-bad : r ≡ None → None ≡ result
+  groups-bad g = go (test limit seen rest) refl
     where
-      go : (b : Bool) → test ≡ b → (test ≡ true) × (end ≡ nodes_end p at)
-      go true e = let w = decided true e in (e, cc)
-      go false e = let w = decided false e in let z : ◌≡◌ {A = ℕ} 0 1 = cc in absurd (omega arith)
+      go : (b : Bool) → test limit seen rest ≡ b → None ≡ result
+      go false e = (turned-is false e).1
+      go true e = let w : ◌≡◌ {A = Option (List ℕ)} None (Some (drop (nodes_end rest 0) rest)) = sym g ∙ (turned-is true e).0 in let y : ◌≡◌ {A = ℕ} 0 1 = cc in absurd (omega arith)
 
-  left_out : r ≡ None → test ≡ false
-  left_out g = go test refl
+  pub groups-more : (behind : List ℕ) → r ≡ Some behind → groups_read limit behind after (left - 1) ≡ result
+  groups-more behind g = go (test limit seen rest) refl
     where
-      go : (b : Bool) → test ≡ b → test ≡ false
-      go false e = e
-      go true e = let w = decided true e in let z : ◌≡◌ {A = ℕ} 0 1 = cc in absurd (omega arith)
+      go : (b : Bool) → test limit seen rest ≡ b → groups_read limit behind after (left - 1) ≡ result
+      go false e = let w : ◌≡◌ {A = Option (List ℕ)} (Some behind) None = sym g ∙ (turned-is false e).0 in let y : ◌≡◌ {A = ℕ} 0 1 = cc in absurd (omega arith)
+      go true e =
+          let w : Some behind ≡ Some (drop (nodes_end rest 0) rest) = sym g ∙ (turned-is true e).0 in
+          let b : behind ≡ drop (nodes_end rest 0) rest = cc in
+          rw (b, d.marks (turned-is true e).0) (turned-is true e).1
 
-  pub groups-fits : r ≡ Some end → end ≤ length p
-  unfolding test
-  groups-fits g = rw (taken g).1 (leb-true (nodes_end p at) (length p) (and_left (leb (nodes_end p at) (length p)) (list_ok limit (nodes_at p at) && unseen_in seen (nodes_at p at)) (taken g).0))
-
-  step-bad : (left n : ℕ) (result : Option ℕ) → left ≡ suc n → groups_read limit p seen at left ≡ result → r ≡ None → None ≡ result
-  unfolding groups_read test
-  step-bad left n result e inv g = ap (λ (t : Bool). pick t (groups_read limit p (marked_in seen (nodes_at p at)) (nodes_end p at) n) None) (sym (left_out g)) ∙ (rw e at inv)
-
-  step-more : (left n : ℕ) (result : Option ℕ) → left ≡ suc n → groups_read limit p seen at left ≡ result → r ≡ Some end → groups_read limit p after end n ≡ result
-  unfolding groups_read test
-  step-more left n result e inv g =
-      rw (d.marks (g ∙ ap Some (taken g).1), (taken g).1)
-      (ap (λ (t : Bool). pick t (groups_read limit p (marked_in seen (nodes_at p at)) (nodes_end p at) n) None) (sym (taken g).0) ∙ (rw e at inv))
-
-  pub groups-bad : (left : ℕ) (result : Option ℕ) → groups_read limit p seen at left ≡ result → r ≡ None → 0 < left → None ≡ result
-  groups-bad left result inv g h = step-bad left (left - 1) result (omega arith) inv g
-
-  pub groups-more : (left : ℕ) (result : Option ℕ) → groups_read limit p seen at left ≡ result → r ≡ Some end → 0 < left → groups_read limit p after end (left - 1) ≡ result
-  groups-more left result inv g h = step-more left (left - 1) result (omega arith) inv g
-
-pub groups-end : (limit at left : ℕ) (seen : List Bool) (p : List ℕ) (result : Option ℕ) → groups_read limit p seen at left ≡ result → left ≤ 0 → Some at ≡ result
+pub groups-end : (limit left : ℕ) (seen : List Bool) (rest : List ℕ) (result : Option (List ℕ)) → groups_read limit rest seen left ≡ result → left ≤ 0 → Some rest ≡ result
 unfolding groups_read
-groups-end limit at left seen p result inv h = let z : left ≡ 0 = omega arith in rw z at inv
+groups-end limit left seen rest result inv h = let z : left ≡ 0 = omega arith in rw z at inv
 
 -- ---- the pass over the groups is the definition: every list sound, and no two share a node
 
@@ -207,7 +178,7 @@ turned e l true f q = refl
 turned e l false f q = ap (λ (b : Bool). e && (l && b)) (sym (and-false f))
 
 -- one turn, in its tests: a, b, c of the group at hand, e, l, f, q of the groups behind it, d of both
-turn : (a b c e l d f q : Bool) (end : ℕ) (rest : Option ℕ) → (a ≡ false → e ≡ false) →
+turn : (a b c e l d f q : Bool) (end : List ℕ) (rest : Option (List ℕ)) → (a ≡ false → e ≡ false) →
     (a ≡ true → b ≡ true → rest ≡ pick (e && (l && ((d && f) && q))) (Some end) None) →
     pick (a && (b && c)) rest None ≡ pick (e && ((b && l) && ((c && f) && (d && q)))) (Some end) None
 turn false b c e l d f q end rest past more = simp (past refl)
@@ -215,39 +186,52 @@ turn true false c e l d f q end rest past more = simp and-false
 turn true true false e l d f q end rest past more = simp and-false
 turn true true true e l d f q end rest past more = more refl refl ∙ ap (λ (b : Bool). pick b (Some end) None) (turned e l d f q)
 
--- what the groups from a place have to be, f holding of the nodes before them
-sound-from : ℕ → List ℕ → (ℕ → Bool) → ℕ → ℕ → Bool
-sound-from limit p f at n = all (list_ok limit) (groups_from p at n) && (all (avoids f) (groups_from p at n) && apart (groups_from p at n))
+-- the groups behind the first end where they do in what is left behind it
+module _ (rest : List ℕ) (at n : ℕ) where
+  drop-behind : drop (groups_end (drop at rest) 0 n) (drop at rest) ≡ drop (groups_end rest at n) rest
+  drop-behind = rw (drop-drop, end-behind rest at 0 at (omega arith) n)
 
-groups-is : (limit : ℕ) (p : List ℕ) (seen : List Bool) (f : ℕ → Bool) (at n : ℕ) → limit ≤ 64 → Marks seen f → at ≤ length p →
-    groups_read limit p seen at n ≡ pick (leb (groups_end p at n) (length p) && sound-from limit p f at n) (Some (groups_end p at n)) None
+-- what n groups at the front have to be, f holding of the nodes before them
+sound-from : ℕ → List ℕ → (ℕ → Bool) → ℕ → Bool
+sound-from limit rest f n = all (list_ok limit) (groups_from rest 0 n) && (all (avoids f) (groups_from rest 0 n) && apart (groups_from rest 0 n))
+
+moved : (limit : ℕ) (f : ℕ → Bool) (rest : List ℕ) (at n : ℕ) → at ≤ length rest →
+    pick (leb (groups_end (drop at rest) 0 n) (length (drop at rest)) && sound-from limit (drop at rest) f n) (Some (drop (groups_end (drop at rest) 0 n) (drop at rest))) None ≡
+    pick (leb (groups_end rest at n) (length rest) &&
+    (all (list_ok limit) (groups_from rest at n) && (all (avoids f) (groups_from rest at n) && apart (groups_from rest at n))))
+    (Some (drop (groups_end rest at n) rest)) None
+unfolding sound-from
+moved limit f rest at n h = rw (within-behind rest at (groups_end (drop at rest) 0 n) (groups_end rest at n) (sym (end-behind rest at 0 at (omega arith) n)) h, drop-behind rest at n, groups-behind rest at 0 at (omega arith) n)
+
+groups-is : (limit : ℕ) (rest : List ℕ) (seen : List Bool) (f : ℕ → Bool) (n : ℕ) → limit ≤ 64 → Marks seen f →
+    groups_read limit rest seen n ≡ pick (leb (groups_end rest 0 n) (length rest) && sound-from limit rest f n) (Some (drop (groups_end rest 0 n) rest)) None
 unfolding groups_read groups_end groups_from sound-from all apart
-groups-is limit p seen f at zero h m w = simp (le-leb at (length p) w)
-groups-is limit p seen f at (suc n) h m w =
-    rw (← unseen-is seen f (nodes_at p at) m)
-    (turn (leb (nodes_end p at) (length p)) (list_ok limit (nodes_at p at)) (unseen_in seen (nodes_at p at))
-    (leb (groups_end p (nodes_end p at) n) (length p)) (all (list_ok limit) (groups_from p (nodes_end p at) n))
-    (all (λ g. disjoint g (nodes_at p at)) (groups_from p (nodes_end p at) n)) (all (avoids f) (groups_from p (nodes_end p at) n))
-    (apart (groups_from p (nodes_end p at) n)) (groups_end p (nodes_end p at) n)
-    (groups_read limit p (marked_in seen (nodes_at p at)) (nodes_end p at) n)
-    (λ x. past (leb-false (nodes_end p at) (length p) x))
-    (λ x y. rw (avoids-both (nodes_at p at) f (groups_from p (nodes_end p at) n)) at
-    (groups-is limit p (marked_in seen (nodes_at p at)) (λ d. has (nodes_at p at) d || f d) (nodes_end p at) n h
-    (marks-more (nodes_at p at) seen f m (list-below limit 64 (nodes_at p at) y h (omega arith)))
-    (leb-true (nodes_end p at) (length p) x))))
+groups-is limit rest seen f zero h m = simp (le-leb 0 (length rest) (omega arith))
+groups-is limit rest seen f (suc n) h m =
+    rw (← unseen-is seen f (nodes_at rest 0) m)
+    (turn (leb (nodes_end rest 0) (length rest)) (list_ok limit (nodes_at rest 0)) (unseen_in seen (nodes_at rest 0))
+    (leb (groups_end rest (nodes_end rest 0) n) (length rest)) (all (list_ok limit) (groups_from rest (nodes_end rest 0) n))
+    (all (λ g. disjoint g (nodes_at rest 0)) (groups_from rest (nodes_end rest 0) n)) (all (avoids f) (groups_from rest (nodes_end rest 0) n))
+    (apart (groups_from rest (nodes_end rest 0) n)) (drop (groups_end rest (nodes_end rest 0) n) rest)
+    (groups_read limit (drop (nodes_end rest 0) rest) (marked_in seen (nodes_at rest 0)) n)
+    (λ x. past (leb-false (nodes_end rest 0) (length rest) x))
+    (λ x y. rw (avoids-both (nodes_at rest 0) f (groups_from rest (nodes_end rest 0) n)) at
+    (groups-is limit (drop (nodes_end rest 0) rest) (marked_in seen (nodes_at rest 0)) (λ d. has (nodes_at rest 0) d || f d) n h
+    (marks-more (nodes_at rest 0) seen f m (list-below limit 64 (nodes_at rest 0) y h (omega arith))) ∙
+    moved limit (λ d. has (nodes_at rest 0) d || f d) rest (nodes_end rest 0) n (leb-true (nodes_end rest 0) (length rest) x))))
   where
-    past : length p < nodes_end p at → leb (groups_end p (nodes_end p at) n) (length p) ≡ false
+    past : length rest < nodes_end rest 0 → leb (groups_end rest (nodes_end rest 0) n) (length rest) ≡ false
     past x =
-        let o = groups-on p (nodes_end p at) n in
-        let u : length p < groups_end p (nodes_end p at) n = omega arith in
-        lt-leb (groups_end p (nodes_end p at) n) (length p) u
+        let o = groups-on rest (nodes_end rest 0) n in
+        let u : length rest < groups_end rest (nodes_end rest 0) n = omega arith in
+        lt-leb (groups_end rest (nodes_end rest 0) n) (length rest) u
 
--- the whole pass: the groups' end, if it lies within the part, the lists are sound and no two share a node
-pub groups-are : (limit : ℕ) (p : List ℕ) (at n : ℕ) → limit ≤ 64 → at ≤ length p →
-    groups_read limit p unmarked at n ≡
-    pick (leb (groups_end p at n) (length p) && (all (list_ok limit) (groups_from p at n) && apart (groups_from p at n))) (Some (groups_end p at n)) None
+-- the whole pass: what is behind the groups, if they lie within, the lists are sound and no two share a node
+pub groups-are : (limit : ℕ) (rest : List ℕ) (n : ℕ) → limit ≤ 64 →
+    groups_read limit rest unmarked n ≡
+    pick (leb (groups_end rest 0 n) (length rest) && (all (list_ok limit) (groups_from rest 0 n) && apart (groups_from rest 0 n))) (Some (drop (groups_end rest 0 n) rest)) None
 unfolding sound-from avoids
-groups-are limit p at n h w =
-    groups-is limit p unmarked (λ x. false) at n h marks-none w ∙
-    ap (λ (b : Bool). pick (leb (groups_end p at n) (length p) && (all (list_ok limit) (groups_from p at n) && (b && apart (groups_from p at n)))) (Some (groups_end p at n)) None)
-    (all_same (λ h. all (λ x. true) h) (λ h. true) (λ h. all_true h) (groups_from p at n) ∙ all_true (groups_from p at n))
+groups-are limit rest n h =
+    groups-is limit rest unmarked (λ x. false) n h marks-none ∙
+    ap (λ (b : Bool). pick (leb (groups_end rest 0 n) (length rest) && (all (list_ok limit) (groups_from rest 0 n) && (b && apart (groups_from rest 0 n)))) (Some (drop (groups_end rest 0 n) rest)) None)
+    (all_same (λ h. all (λ x. true) h) (λ h. true) (λ h. all_true h) (groups_from rest 0 n) ∙ all_true (groups_from rest 0 n))

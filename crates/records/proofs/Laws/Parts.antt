@@ -1,85 +1,129 @@
 -- Laws on the constraints as parts of the record, one behind the other.
-use Prim.Native.Nat.{ℕ, zero, suc, ◌+◌, ◌-◌, ◌≤◌, ◌<◌, ◌^◌}
-use mathlib.Core.Bool.{Bool, false}
-use mathlib.Core.List.{List}
-use mathlib.Core.Path.{◌≡◌, sym}
+use Prim.Native.Nat.{ℕ, zero, suc, ◌+◌, ◌-◌, ◌*◌, ◌≤◌, ◌<◌}
+use mathlib.Core.Bool.{false}
+use mathlib.Core.List.{List, [], ◌∷◌}
+use mathlib.Core.Logic.{◌⊎◌, ⊎_elim, by_cases}
+use mathlib.Core.Path.{◌≡◌, refl, sym, ap, ◌∙◌}
+use native.Mathlib.Decide.{dec_lt}
 use native.Mathlib.Omega.{arith}
 use lib.ListN.{length, take, drop, length-drop}
-use lib.Seq.{length-take-le}
-use mir.Syntax.{w64}
-use mir.Val.{Fits}
 use lib.Dec.{eqb}
-use borrow.Author.Tests.{ne_eqb}
-use Rattle.records.specs.Bytes.{be16}
-use Rattle.records.specs.Room.{part_end, part_at, parts_end}
+use borrow.Author.Tests.{eq-eqb, ne_eqb, eqb-true}
+use Rattle.std.proofs.lemmas.List.{get_or-drop, drop-drop, take_rest}
+use Rattle.records.specs.Bytes.{byte_at, be16}
+use Rattle.records.specs.Room.{part_end, part_at, parts_from, parts_end}
+use Rattle.records.proofs.Laws.Bools.{bool_iff}
 
 pub parts-on : (s : List ℕ) (at n : ℕ) → at ≤ parts_end s at n
 unfolding parts_end
 parts-on s at zero = omega arith
 parts-on s at (suc n) = let w = parts-on s (at + 2 + be16 s at) n in omega arith
 
--- a part of the record
-module _ (s : List ℕ) (at : ℕ) (h : part_end s at ≤ length s) where
-  pub part_end_lem : at + 2 + be16 s at ≤ length s
-  part_end_lem = h
+-- ---- the same from a place on: what is left of the record, without what stands before
 
-  pub part_length : length (part_at s at) ≡ 2 + be16 s at
+module _ (s : List ℕ) (k : ℕ) where
+  pub be16-drop : (at : ℕ) → be16 (drop k s) at ≡ be16 s (k + at)
+  unfolding be16
+  be16-drop at = rw (get_or-drop k s at 0, get_or-drop k s (at + 1) 0) (ap (λ (p : ℕ). byte_at s (k + at) * 256 + byte_at s p) (omega arith))
+
+  pub end-drop : (at n : ℕ) → k + parts_end (drop k s) at n ≡ parts_end s (k + at) n
+  unfolding parts_end
+  end-drop at zero = refl
+  end-drop at (suc n) = end-drop (part_end (drop k s) at) n ∙ ap (λ (p : ℕ). parts_end s p n) (let e = be16-drop at in omega arith)
+
+  pub part-drop : (at : ℕ) → part_at (drop k s) at ≡ part_at s (k + at)
   unfolding part_at
-  part_length = let w = part_end_lem in length-take-le (2 + be16 s at) (drop at s) (simp length-drop (omega arith))
+  part-drop at = rw (be16-drop at, drop-drop at k s) refl
 
-  pub part-next : at + length (part_at s at) ≡ part_end s at
-  part-next = rw part_length (omega arith)
+  pub parts-drop : (at n : ℕ) → parts_from (drop k s) at n ≡ parts_from s (k + at) n
+  unfolding parts_from
+  parts-drop at zero = refl
+  parts-drop at (suc n) =
+      rw (part-drop at, parts-drop (part_end (drop k s) at) n) (ap (λ (p : ℕ). part_at s (k + at) ∷ parts_from s p n) (let e = be16-drop at in omega arith))
 
-pub part-is : (s : List ℕ) (at size end : ℕ) → end ≡ at + 2 + size → size ≡ be16 s at → take (end - at) (drop at s) ≡ part_at s at
-unfolding part_at
-part-is s at size end e f = let w : end - at ≡ 2 + be16 s at = omega arith in rw w
+there : (at : ℕ) → at + 0 ≡ at
+there at = omega arith
 
--- the turns of the walk that finds where the constraints end
-module _ (s : List ℕ) (at left : ℕ) (result : Bool) (inv : eqb (parts_end s at left) (length s) ≡ result) (h : at ≤ length s) where
-  past : (n : ℕ) → left ≡ suc n → length s < part_end s at → false ≡ result
+-- ---- whether they fill it: not where they start behind its end, and else if what is left is filled
+
+pub fills_none : (s : List ℕ) (at n : ℕ) → length s < at → false ≡ eqb (parts_end s at n) (length s)
+fills_none s at n h = let o = parts-on s at n in sym (ne_eqb (parts_end s at n) (length s) (λ q. omega arith))
+
+pub fills_rest : (s rest : List ℕ) (at n : ℕ) → rest ≡ take (length s - at) (drop at s) → length rest + at ≡ length s → eqb (parts_end rest 0 n) (length rest) ≡ eqb (parts_end s at n) (length s)
+fills_rest s rest at n e f =
+    let d : rest ≡ drop at s = e ∙ take_rest s at in
+    let g : at + parts_end rest 0 n ≡ parts_end s at n = ap (λ (r : List ℕ). at + parts_end r 0 n) d ∙ end-drop s at 0 n ∙ ap (λ (p : ℕ). parts_end s p n) (there at) in
+    bool_iff _ _ (λ t. let q = eqb-true (parts_end rest 0 n) (length rest) t in eq-eqb (parts_end s at n) (length s) (omega arith))
+    (λ t. let q = eqb-true (parts_end s at n) (length s) t in eq-eqb (parts_end rest 0 n) (length rest) (omega arith))
+
+-- what is left of a record that they fill
+module _ (s : List ℕ) (at n : ℕ) (end : parts_end s at n ≡ length s) where
+  pub parts_within : at ≤ length s
+  parts_within = let o = parts-on s at n in omega arith
+
+  module _ (rest : List ℕ) (e : rest ≡ take (length s - at) (drop at s)) where
+    pub rest_ends : parts_end rest 0 n ≡ length rest
+    rest_ends =
+        let w = parts_within in
+        let f = end-drop s at 0 n ∙ ap (λ (p : ℕ). parts_end s p n) (there at) in
+        rw (e ∙ take_rest s at) (let l = length-drop at s in omega arith)
+
+    pub rest_parts : parts_from rest 0 n ≡ parts_from s at n
+    rest_parts = rw (e ∙ take_rest s at) (parts-drop s at 0 n ∙ ap (λ (p : ℕ). parts_from s p n) (there at))
+
+-- ---- what is left, at its first part
+
+module _ (rest : List ℕ) (left : ℕ) (z : 0 < left) where
+  end_behind : (n : ℕ) → left ≡ suc n → 2 + be16 rest 0 + parts_end (drop (2 + be16 rest 0) rest) 0 n ≡ parts_end rest 0 left
   unfolding parts_end
-  past n e w =
-      let o = parts-on s (part_end s at) n in
-      rw (e, ne_eqb (parts_end s (part_end s at) n) (length s) (λ q. omega arith)) at inv
+  end_behind n e = rw e (end-drop rest (2 + be16 rest 0) 0 n ∙ ap (λ (p : ℕ). parts_end rest p n) (omega arith))
 
-  pub fill-short : 0 < left → length s - at < 2 → false ≡ result
-  fill-short z w = past (left - 1) (omega arith) (omega arith)
+  end-next : 2 + be16 rest 0 + parts_end (drop (2 + be16 rest 0) rest) 0 (left - 1) ≡ parts_end rest 0 left
+  end-next = end_behind (left - 1) (omega arith)
 
-  pub fill-long : (size : ℕ) → size ≡ be16 s at → 0 < left → 2 ≤ length s - at → length s - at - 2 < size → false ≡ result
-  fill-long size e z w v = past (left - 1) (omega arith) (omega arith)
+  parts_behind : (n : ℕ) → left ≡ suc n → parts_from rest 0 left ≡ take (2 + be16 rest 0) rest ∷ parts_from (drop (2 + be16 rest 0) rest) 0 n
+  unfolding parts_from part_at
+  parts_behind n e =
+      rw e (ap (λ (ps : List (List ℕ)). take (2 + be16 rest 0) rest ∷ ps) (sym (parts-drop rest (2 + be16 rest 0) 0 n ∙ ap (λ (p : ℕ). parts_from rest p n) (omega arith))))
 
-  pub fill_more : (size : ℕ) → size ≡ be16 s at → 0 < left → eqb (parts_end s (at + 2 + size) (left - 1)) (length s) ≡ result
+  pub part_fits : parts_end rest 0 left ≡ length rest → 2 + be16 rest 0 ≤ length rest
+  part_fits end = let e = end-next in omega arith
+
+  -- a length that was read, and what stands behind it
+  module _ (size : ℕ) (next : List ℕ) (e : size ≡ be16 rest 0) (f : next ≡ drop (2 + size) rest) where
+    pub parts_left : parts_end rest 0 left ≡ length rest → parts_end next 0 (left - 1) ≡ length next
+    parts_left end = rw (f, e) (let h = end-next in let l = length-drop (2 + be16 rest 0) rest in omega arith)
+
+    pub parts_is : (part : List ℕ) → part ≡ take (2 + size) rest → parts_from rest 0 left ≡ part ∷ parts_from next 0 (left - 1)
+    parts_is part g = rw (g, f, e) (parts_behind (left - 1) (omega arith))
+
+-- a part is left where two bytes are, and none where they are not
+module _ (rest : List ℕ) (left : ℕ) (end : parts_end rest 0 left ≡ length rest) where
+  pub part_left : (body : List ℕ) → length body + 2 ≡ length rest → 0 < left
   unfolding parts_end
-  fill_more size e z = let w : left ≡ suc (left - 1) = omega arith in rw e (rw w at inv)
+  part_left body h = by_cases (dec_lt 0 left) (λ z. z) (λ z. let e : left ≡ 0 = omega arith in let w = rw e at end in absurd (omega arith))
 
-  pub fill_end : left ≤ 0 → eqb at (length s) ≡ result
+  pub parts_none : length rest < 2 → parts_from rest 0 left ≡ []
+  unfolding parts_from
+  parts_none h = by_cases (dec_lt 0 left) (λ z. let f = part_fits rest left z end in absurd (omega arith)) (λ z. let e : left ≡ 0 = omega arith in rw e refl)
+
+-- ---- the walk that finds what is left behind so many parts
+
+module _ (s rest : List ℕ) (count left : ℕ) (within : length rest ≤ length s) (inv : length s - length rest + parts_end rest 0 left ≡ parts_end s 0 count) where
+  pub behind_short : 0 < left → length rest < 2 → length s < parts_end s 0 count
+  behind_short z h = let e = end-next rest left z in omega arith
+
+  pub behind_long : (body : List ℕ) (n : ℕ) → 0 < left → n ≡ be16 rest 0 → length body + 2 ≡ length rest → (length body < n) ⊎ (length body < length body) →
+      length s < parts_end s 0 count
+  behind_long body n z e l h = let q = end-next rest left z in ⊎_elim (λ k. omega arith) (λ k. absurd (omega arith)) h
+
+  pub behind_more : (body next : List ℕ) (n : ℕ) → 0 < left → n ≡ be16 rest 0 → body ≡ drop 2 rest → length body + 2 ≡ length rest →
+      next ≡ take (length body - n) (drop n body) → length next + n ≡ length body → (length next ≤ length s) × (length s - length next + parts_end next 0 (left - 1) ≡ parts_end s 0 count)
+  behind_more body next n z e f l g m =
+      let d : next ≡ drop (2 + be16 rest 0) rest = g ∙ take_rest body n ∙ rw (f, e) (drop-drop (be16 rest 0) 2 rest) in
+      let q = ap (λ (r : List ℕ). 2 + be16 rest 0 + parts_end r 0 (left - 1)) d ∙ end-next rest left z in
+      (omega arith, omega arith)
+
+  pub behind_all : left ≡ 0 → parts_end s 0 count + length rest ≡ length s
   unfolding parts_end
-  fill_end z = let w : left ≡ 0 = omega arith in rw w at inv
-
-pub fill-past : (s : List ℕ) (at n : ℕ) → length s < at → false ≡ eqb (parts_end s at n) (length s)
-fill-past s at n h = let o = parts-on s at n in sym (ne_eqb (parts_end s at n) (length s) (λ q. omega arith))
-
--- the turns of a pass over the constraints, which end where the record does
-module _ (s : List ℕ) (at left : ℕ) (end : parts_end s at left ≡ length s) (z : 0 < left) where
-  behind : (n : ℕ) → left ≡ suc n → parts_end s (part_end s at) n ≡ length s
-  unfolding parts_end
-  behind n e = rw e at end
-
-  pub parts_next : parts_end s (part_end s at) (left - 1) ≡ length s
-  parts_next = behind (left - 1) (omega arith)
-
-  pub parts-fit : part_end s at ≤ length s
-  parts-fit = let o = parts-on s (part_end s at) (left - 1) in let w = parts_next in omega arith
-
-  module _ (p : List ℕ) (e : p ≡ part_at s at) where
-    pub parts-step : at + length p ≡ part_end s at
-    parts-step = rw e (part-next s at parts-fit)
-
-    parts-room : at + length p ≤ length s
-    parts-room = let w = parts-step in let v = parts-fit in omega arith
-
-    pub parts_add : length s < 2 ^ 64 → Fits w64 (at + length p)
-    parts_add h = let w = parts-room in record { fits = omega arith }
-
-    pub parts-shorter : parts_end s (at + length p) (left - 1) ≡ length s
-    parts-shorter = rw parts-step parts_next
+  behind_all z = let e : parts_end rest 0 left ≡ 0 = rw z refl in omega arith

@@ -1,16 +1,21 @@
 -- Laws on rows of one width, and on the header and the VM rows of a cluster record.
-use Prim.Native.Nat.{ℕ, zero, suc, ◌+◌, ◌-◌, ◌*◌, ◌≤◌, ◌<◌}
+use Prim.Native.Nat.{ℕ, zero, suc, ◌+◌, ◌-◌, ◌*◌, ◌/◌, ◌≤◌, ◌<◌}
 use mathlib.Core.Bool.{Bool, true, false, not, ◌&&◌, ◌||◌, or-true, or-false}
-use mathlib.Core.List.{List}
+use mathlib.Core.List.{List, [], ◌∷◌}
 use mathlib.Core.Logic.{◌⊎◌, inl, inr, ⊎_elim, by_cases}
 use mathlib.Core.Path.{◌≡◌, refl, sym, ap, ◌∙◌}
 use native.Mathlib.Decide.{dec_lt}
 use native.Mathlib.Omega.{arith}
-use lib.ListN.{length, get_or}
+use lib.ListN.{length, get_or, take, drop, length-drop}
+use lib.Seq.{length-take-le}
 use lib.Dec.{ltb, eqb}
 use borrow.Author.Tests.{lt-ltb, le-ltb, eq-eqb, ne_eqb, ltb-true, eqb-true}
+use Rattle.std.specs.Simd.{first_chunks}
+use Rattle.std.proofs.lemmas.List.{get_or-take, get_or-drop, take-take, drop-take, drop-drop}
 use Rattle.records.specs.Base.{all}
-use Rattle.records.specs.Room.{nowhere, on_node, rows, vm_row, place_ok, vm_ok}
+use Rattle.records.specs.Bytes.{byte_at, be16, be24}
+use Rattle.records.specs.Room.{Vm, nowhere, on_node, rows, vm_row, vm_count, vms_start, constraints_start, room_of, place_ok}
+use Rattle.records.specs.Inner.{row_vms}
 
 -- ---- rows
 
@@ -76,19 +81,45 @@ module _ (nodes p : ℕ) (m : nodes ≤ 64) (a : place_ok true nodes p ≡ true)
   pub near-is : on_node p ≡ ltb p 64
   near-is = by_cases (dec_lt p 64) (λ h. near_on h ∙ sym (lt-ltb p 64 h)) (λ h. let k : 64 ≤ p = omega arith in far-off k ∙ sym (le-ltb p 64 k))
 
--- the turns of the pass over the VM rows
-module _ (s : List ℕ) (known : Bool) (nodes at left : ℕ) (ok result : Bool) (e : ok ≡ vm_ok known nodes (vm_row s at))
-    (inv : all (vm_ok known nodes) (rows (vm_row s) 7 at left) ≡ result) (h : 0 < left) where
-  turn : (n : ℕ) → left ≡ suc n → (vm_ok known nodes (vm_row s at) && all (vm_ok known nodes) (rows (vm_row s) 7 (at + 7) n)) ≡ result
-  unfolding rows all
-  turn n q = rw q at inv
+-- ---- rows that are cut apart
 
-  pub rows-not : ok ≡ false → false ≡ result
-  rows-not o = let w : left ≡ suc (left - 1) = omega arith in simp (sym e ∙ o) at (turn (left - 1) w)
+-- a row by itself
+pub row-alone : (s : List ℕ) (at : ℕ) → vm_row (take 7 (drop at s)) 0 ≡ vm_row s at
+unfolding vm_row be24 be16
+row-alone s at =
+    let e : at + 0 ≡ at = omega arith in
+    let f : at + 4 ≡ at + 3 + 1 = omega arith in
+    rw (byte 0 (omega arith), byte 1 (omega arith), byte 2 (omega arith), byte 3 (omega arith), byte 4 (omega arith), byte 5 (omega arith), byte 6 (omega arith), e, f) refl
+  where
+    byte : (i : ℕ) → i < 7 → byte_at (take 7 (drop at s)) i ≡ byte_at s (at + i)
+    byte i h = get_or-take 7 (drop at s) i 0 h ∙ get_or-drop at s i 0
 
-  pub rows_more : (next rest : ℕ) → ok ≡ true → next ≡ at + 7 → left ≡ suc rest → all (vm_ok known nodes) (rows (vm_row s) 7 next rest) ≡ result
-  rows_more next rest o f g = rw f (simp (sym e ∙ o) at (turn rest g))
+rows-cut : (s : List ℕ) (at n : ℕ) → row_vms (first_chunks 7 n (drop at s)) ≡ rows (vm_row s) 7 at n
+unfolding row_vms rows
+rows-cut s at zero = refl
+rows-cut s at (suc n) = rw (row-alone s at, drop-drop 7 at s, ← rows-cut s (at + 7) n) refl
 
-pub rows_end : (s : List ℕ) (known : Bool) (nodes at left : ℕ) (result : Bool) → all (vm_ok known nodes) (rows (vm_row s) 7 at left) ≡ result → left ≤ 0 → true ≡ result
-unfolding rows all
-rows_end s known nodes at left result inv h = let z : left ≡ 0 = omega arith in rw z at inv
+-- only so many rows are cut
+chunks-take : (k m : ℕ) (s : List ℕ) → m ≡ k * 7 → first_chunks 7 k (take m s) ≡ first_chunks 7 k s
+chunks-take zero m s e = refl
+chunks-take (suc k) m s e =
+    let f : m ≡ 7 + k * 7 = omega arith in
+    rw f (rw (take-take 7 (7 + k * 7) s (omega arith), drop-take 7 (k * 7) s, chunks-take k (k * 7) (drop 7 s) refl) refl)
+
+rows-between : (s : List ℕ) (at end n : ℕ) → end ≡ at + n * 7 → end ≤ length s →
+    row_vms (first_chunks 7 (length (take (end - at) (drop at s)) / 7) (take (end - at) (drop at s))) ≡ rows (vm_row s) 7 at n
+rows-between s at end n e h =
+    let l : length (take (end - at) (drop at s)) ≡ end - at = length-take-le (end - at) (drop at s) (let q = length-drop at s in omega arith) in
+    let k : length (take (end - at) (drop at s)) / 7 ≡ n = omega arith in
+    rw (k, chunks-take n (end - at) (drop at s) (omega arith)) (rows-cut s at n)
+
+-- the VM rows of a record
+pub rows-apart : (s b : List ℕ) (at end : ℕ) → b ≡ s → at ≡ vms_start s → end ≡ constraints_start s → constraints_start s ≤ length s →
+    row_vms (first_chunks 7 (length (take (end - at) (drop at b)) / 7) (take (end - at) (drop at b))) ≡ (room_of s).vms
+unfolding room_of
+rows-apart s b at end e f g h = rw (e, f, g) (rows-between s (vms_start s) (constraints_start s) (vm_count s) refl h)
+
+pub all-rows : (p : Vm → Bool) (xs : List (List ℕ)) → all (λ row. p (vm_row row 0)) xs ≡ all p (row_vms xs)
+unfolding all row_vms
+all-rows p [] = refl
+all-rows p (x ∷ xs) = ap (λ (b : Bool). p (vm_row x 0) && b) (all-rows p xs)

@@ -1,23 +1,26 @@
 -- What the views of a cluster say of the bytes that they stand on: the room of a record that was read, a constraint of it, and the walks
 -- over constraints and groups.
-use Prim.Native.Nat.{ℕ, suc, ◌+◌, ◌-◌, ◌≤◌, ◌<◌}
+use Prim.Native.Nat.{ℕ, suc, ◌+◌, ◌-◌, ◌≤◌}
 use mathlib.Core.Bool.{true}
 use mathlib.Core.List.{List, [], ◌∷◌, map}
+use mathlib.Core.Logic.{by_cases}
+use native.Mathlib.Decide.{dec_lt}
 use mathlib.Core.Path.{◌≡◌, refl, sym, ap, ◌∙◌}
 use native.Mathlib.Omega.{arith}
-use lib.ListN.{length, drop, length-drop}
-use lib.Seq.{length-take-le}
+use lib.ListN.{length, take, drop, length-drop}
+use Rattle.std.proofs.lemmas.List.{drop-drop}
+use Rattle.std.specs.Prelude.{◌≢◌}
 use lib.Dec.{ltb, leb}
 use borrow.Author.Tests.{ltb-true, lt-ltb}
 use Rattle.records.specs.Base.{all}
 use Rattle.records.specs.Bytes.{byte_at}
-use Rattle.records.specs.Room.{Constraint, ban, fence, spread, latency, before, kind_of, nodes_of, groups_of, node_count, vm_count, others_at, part_at, part_end, parts_from, parts_end, parts_of, nodes_at, nodes_end, groups_from, room_of, room_at, at_reserve, list_ok, rises, constraint_of, constraint_ok, filled, well_formed}
-use Rattle.records.specs.Inner.{Below, WasRead, GroupsLeft}
-use Rattle.records.specs.declared.constraints.Kind.TheVariants.{Latency}
+use Rattle.records.specs.Room.{Constraint, ban, fence, spread, latency, before, kind_of, vms_of, nodes_of, groups_of, node_count, vm_count, parts_of, nodes_at, nodes_end, groups_from, groups_end, room_of, room_at, at_reserve, list_ok, rises, constraint_of, constraint_ok, filled, well_formed}
+use Rattle.records.specs.Inner.{Below, WasRead}
+use Rattle.records.specs.declared.constraints.Kind.TheVariants.{Ban, Fence, Latency, Before}
 use Rattle.records.proofs.Laws.Bools.{and_left, and_right, and_both, all_more}
-use Rattle.records.proofs.Laws.Lists.{list-below}
-use Rattle.records.proofs.Laws.Parts.{parts-step}
-use Rattle.records.proofs.Laws.Constraints.{kind_within, is-latency, fourth, groups-next, group-within, groups-last, groups-read, groups-byte}
+use Rattle.records.proofs.Laws.Lists.{groups-behind, end-behind, list-below}
+use Rattle.records.proofs.Laws.Constraints.{kind_within}
+use Rattle.records.proofs.Laws.Groups.{groups-on}
 use Rattle.records.proofs.Laws.Cluster.{undamaged, nodes-most, vms-most}
 use Rattle.records.proofs.Laws.Walk.{nodes-sound, groups-sound, groups_few}
 
@@ -85,75 +88,85 @@ pub parts_all : (reserve : ℕ) (s : List ℕ) → map constraint_of (parts_of s
 unfolding at_reserve room_of
 parts_all reserve s = refl
 
-pub parts_none : (s : List ℕ) (at n : ℕ) → n ≡ 0 → parts_from s at n ≡ []
-unfolding parts_from
-parts_none s at n z = rw z refl
+-- ---- lists that a kind has not
 
-parts_cons : (s : List ℕ) (at n m : ℕ) → n ≡ suc m → parts_from s at n ≡ part_at s at ∷ parts_from s (part_end s at) m
-unfolding parts_from
-parts_cons s at n m e = rw e refl
+pub no-vms : (c : Constraint) → kind_of c ≡ Before → [] ≡ vms_of c
+unfolding kind_of vms_of
+no-vms (ban vms nodes) k = let z : ◌≡◌ {A = ℕ} 0 1 = cc in absurd (omega arith)
+no-vms (fence vms nodes) k = let z : ◌≡◌ {A = ℕ} 0 1 = cc in absurd (omega arith)
+no-vms (spread vms) k = let z : ◌≡◌ {A = ℕ} 0 1 = cc in absurd (omega arith)
+no-vms (latency vms groups) k = let z : ◌≡◌ {A = ℕ} 0 1 = cc in absurd (omega arith)
+no-vms (before first second) k = refl
 
-pub parts_is : (s : List ℕ) (at n : ℕ) (p : List ℕ) → parts_end s at n ≡ length s → 0 < n → p ≡ part_at s at →
-    parts_from s at n ≡ p ∷ parts_from s (at + length p) (n - 1)
-parts_is s at n p w z e = rw (parts-step s at n w z p e, e) (parts_cons s at n (n - 1) (omega arith))
+pub no-nodes : (c : Constraint) → kind_of c ≢ Ban → kind_of c ≢ Fence → [] ≡ nodes_of c
+unfolding kind_of nodes_of
+no-nodes (ban vms nodes) a b = absurd (a refl)
+no-nodes (fence vms nodes) a b = absurd (b refl)
+no-nodes (spread vms) a b = refl
+no-nodes (latency vms groups) a b = refl
+no-nodes (before first second) a b = refl
+
+pub no-groups : (c : Constraint) → kind_of c ≢ Latency → groups_from [] 0 0 ≡ groups_of c
+unfolding kind_of groups_of groups_from
+no-groups (ban vms nodes) a = refl
+no-groups (fence vms nodes) a = refl
+no-groups (spread vms) a = refl
+no-groups (latency vms groups) a = absurd (a refl)
+no-groups (before first second) a = refl
 
 -- ---- the groups that are left
 
-none-but : (c : Constraint) → (kind_of c ≡ Latency → ⊥) → groups_of c ≡ []
-unfolding kind_of groups_of
-none-but (ban vms nodes) h = refl
-none-but (fence vms nodes) h = refl
-none-but (spread vms) h = refl
-none-but (latency vms groups) h = absurd (h refl)
-none-but (before first second) h = refl
+module _ (p : List ℕ) (c : Constraint) (w : well_formed 256 64 p ≡ true) (e : constraint_of p ≡ c) (groups : List (List ℕ)) (g : groups ≡ groups_of c) where
+  pub groups_sound : all (list_ok 64) groups ≡ true
+  groups_sound = ap (all (list_ok 64)) (g ∙ ap groups_of (sym e)) ∙ formed-groups p w
 
--- at a part that stands for a constraint: none where it is not of latency, else all of them, from behind their count
-module _ (p : List ℕ) (c : Constraint) (w : well_formed 256 64 p ≡ true) (e : constraint_of p ≡ c) where
-  pub groups_empty : (byte_at p 2 ≡ 4 → ⊥) → groups_from p 0 0 ≡ groups_of c
+  pub groups_most : length groups ≤ 64
+  groups_most = rw (g, ← e) (groups_few 256 64 (constraint_of p) (formed-ok p w))
+
+module _ (rest : List ℕ) (n : ℕ) (w : groups_end rest 0 n ≡ length rest) where
+  groups-one : (m : ℕ) → n ≡ suc m → (groups_end rest (nodes_end rest 0) m ≡ length rest) × (groups_from rest 0 n ≡ nodes_at rest 0 ∷ groups_from rest (nodes_end rest 0) m)
+  unfolding groups_end groups_from
+  groups-one m e = (sym (ap (groups_end rest 0) e) ∙ w, ap (groups_from rest 0) e)
+
+  pub groups_none : length rest ≡ 0 → groups_from rest 0 n ≡ []
   unfolding groups_from
-  groups_empty h = sym (none-but c (λ k. h (fourth p (formed_filled p w) (ap kind_of e ∙ k))))
+  groups_none z =
+      by_cases (dec_lt 0 n)
+      (λ q. let h = (groups-one (n - 1) (omega arith)).0 in let o = groups-on rest (nodes_end rest 0) (n - 1) in absurd (omega arith))
+      (λ q. let y : n ≡ 0 = omega arith in rw y refl)
 
-  pub groups_sound : (groups : List (List ℕ)) → groups ≡ groups_of c → all (list_ok 64) groups ≡ true
-  groups_sound groups g = ap (all (list_ok 64)) (g ∙ ap groups_of (sym e)) ∙ formed-groups p w
+  module _ (x : ℕ) (tail : List ℕ) (e : rest ≡ x ∷ tail) where
+    pub group_left : 1 ≤ n
+    unfolding groups_end
+    group_left =
+        by_cases (dec_lt 0 n) (λ q. omega arith)
+        (λ q. let y : n ≡ 0 = omega arith in let l : length rest ≡ suc (length tail) = ap length e in let v = rw y at w in absurd (omega arith))
 
-  pub groups_most : (groups : List (List ℕ)) → groups ≡ groups_of c → length groups ≤ 64
-  groups_most groups g = rw (g, ← e) (groups_few 256 64 (constraint_of p) (formed-ok p w))
+    one : (groups_end rest (nodes_end rest 0) (n - 1) ≡ length rest) × (groups_from rest 0 n ≡ nodes_at rest 0 ∷ groups_from rest (nodes_end rest 0) (n - 1))
+    one = groups-one (n - 1) (let l = group_left in omega arith)
 
-  module _ (k : byte_at p 2 ≡ 4) (at n : ℕ) (f : at ≡ others_at p) (g : n ≡ byte_at p at) where
-    of-latency : kind_of (constraint_of p) ≡ Latency
-    of-latency = sym (is-latency p (formed_filled p w) k)
+    count : byte_at rest 0 ≡ x
+    count = ap (λ (l : List ℕ). byte_at l 0) e
 
-    pub groups_there : at < length p
-    groups_there = groups-byte p (formed_filled p w) of-latency at f
+    pub group_fits : x ≤ length tail
+    group_fits =
+        let l : length rest ≡ suc (length tail) = ap length e in
+        let h = one.0 in
+        let o = groups-on rest (nodes_end rest 0) (n - 1) in
+        let y = count in
+        omega arith
 
-    pub groups_start : GroupsLeft p (at + 1) n
-    groups_start = record { ends = λ z. rw (g, f) (groups-last p (formed_filled p w) of-latency) }
+    behind : drop (nodes_end rest 0) rest ≡ drop x tail
+    behind = let y : nodes_end rest 0 ≡ 1 + x = omega (arith, count) in ap (λ (i : ℕ). drop i rest) y ∙ ap (drop (1 + x)) e ∙ sym (drop-drop x 1 (x ∷ tail))
 
-    pub groups_all : groups_from p (at + 1) n ≡ groups_of c
-    groups_all = rw (g, f) (sym (groups-read p (formed_filled p w) of-latency)) ∙ ap groups_of e
+    pub group_next : groups_end (drop x tail) 0 (n - 1) ≡ length (drop x tail)
+    group_next =
+        let h = one.0 in
+        let i = end-behind rest (nodes_end rest 0) 0 (nodes_end rest 0) (omega arith) (n - 1) in
+        rw (← behind) (simp length-drop (omega arith))
 
-pub groups_none : (p : List ℕ) (at n : ℕ) → n ≡ 0 → groups_from p at n ≡ []
-unfolding groups_from
-groups_none p at n z = rw z refl
-
-module _ (p : List ℕ) (at n : ℕ) (w : GroupsLeft p at n) (z : 0 < n) where
-  pub group_fits : nodes_end p at ≤ length p
-  group_fits = group-within p at n (w.ends z) z
-
-  groups-cons : (m : ℕ) → n ≡ suc m → groups_from p at n ≡ nodes_at p at ∷ groups_from p (nodes_end p at) m
-  unfolding groups_from
-  groups-cons m e = rw e refl
-
-  module _ (nodes : List ℕ) (e : nodes ≡ nodes_at p at) where
-    pub group_end : at + (1 + length nodes) ≡ nodes_end p at
+    pub group_is : groups_from rest 0 n ≡ take x tail ∷ groups_from (drop x tail) 0 (n - 1)
     unfolding nodes_at
-    group_end =
-        let f = group_fits in
-        let l = length-take-le (byte_at p at) (drop (at + 1) p) (simp length-drop (omega arith)) in
-        rw (e, l) (omega arith)
-
-    pub group_next : GroupsLeft p (at + (1 + length nodes)) (n - 1)
-    group_next = record { ends = λ y. rw group_end (groups-next p at n (w.ends z) z) }
-
-    pub group_is : groups_from p at n ≡ nodes ∷ groups_from p (at + (1 + length nodes)) (n - 1)
-    group_is = rw (group_end, e) (groups-cons (n - 1) (omega arith))
+    group_is =
+        one.1 ∙
+        rw (← behind, ← groups-behind rest (nodes_end rest 0) 0 (nodes_end rest 0) (omega arith) (n - 1), count, e) refl

@@ -8,10 +8,9 @@ use Rattle.records.specs.Base.{all}
 use Rattle.records.specs.Room.{Room, IsSound}
 use Rattle.records.specs.Plan.{Step}
 use Rattle.rules.specs.Rules.{named, sourced, permitted, fitting, unmet, in_turn, step_check}
-use Rattle.rules.specs.Inner.{held, Placed, Held, dests_from, Ready, Loads, Aimed, fits_in, spread_ok, turn_ok, bound_check, running_check}
+use Rattle.rules.specs.Inner.{held, Placed, Held, dests_from, Ready, Aimed, fits_running, spread_ok, turn_ok, bound_check, running_check}
 use Rattle.rules.specs.declared.faults.StepFault.{StepFault}
 use Rattle.rules.specs.declared.faults.StepFault.TheVariants.{Misnamed, Elsewhere, Forbidden, Misfit}
-use Rattle.rules.specs.declared.tally.Tally.{Tally}
 use Rattle.rules.proofs.Laws.Fit.{named-is-aimed, named-ready, fitting-is}
 use Rattle.rules.proofs.Laws.Meet.{unmet-is}
 use Rattle.rules.proofs.Laws.Bound.{in-turn-is}
@@ -34,9 +33,9 @@ module _ (room : Room) (places : List ℕ) (step : Step) (h : Held room places s
     pub held-ready : Ready room places dests
     held-ready = rw e (named-ready room places step h.sound h.well-named)
 
-    module _ (sums : List Tally) (fits : Bool) (l : Loads room places dests sums) (f : fits ≡ fits_in room sums step) where
+    module _ (fits : Bool) (f : fits ≡ fits_running room places dests step) where
       fits-is : fits ≡ fitting room (held room places) step
-      fits-is = fitting-is room places step h.sound h.well-named sums fits f (rw e at l)
+      fits-is = f ∙ rw e (fitting-is room places step h.sound h.well-named)
 
       pub running-misfit : fits ≡ false → Err Misfit ≡ running_check room (held room places) step
       unfolding running_check

@@ -1,8 +1,10 @@
 -- Laws on the cost: its bounds, over the definitions alone.
-use Prim.Native.Nat.{ℕ, ◌+◌, ◌*◌, ◌≤◌, ◌<◌, ◌^◌}
+use Prim.Native.Nat.{ℕ, max, min, ◌+◌, ◌*◌, ◌≤◌, ◌<◌, ◌^◌}
 use mathlib.Core.Bool.{Bool, true, false}
-use mathlib.Core.List.{List, [], ◌∷◌}
-use mathlib.Core.Path.{◌≡◌, sym, ◌∙◌}
+use mathlib.Core.List.{List, [], ◌∷◌, map}
+use mathlib.Core.Path.{◌≡◌, refl, sym, ◌∙◌}
+use Rattle.std.specs.List.{fold, reduce, sum_by}
+use Rattle.std.specs.Option.{unwrap_or}
 use native.Mathlib.Nat.{add_assoc, add-zero}
 use native.Mathlib.Omega.{arith}
 use lib.Dec.{leb}
@@ -88,3 +90,45 @@ total-next step rest a t = let l = total-cons step rest in (all_tail sized step 
 pub total-end : (room : Room) (steps : List Step) (before cost total : ℕ) → total + cost_from room cost [] ≡ cost_from room before steps → total ≡ cost_from room before steps
 unfolding cost_from
 total-end room steps before cost total inv = sym (add-zero total) ∙ inv
+
+-- ---- the moves of a step in std's words
+
+-- the memory of a move, said with its bound
+abbrev pub capped : Room → Move → ℕ
+capped room move = min (memory_of room move) 16777215
+
+module _ (room : Room) where
+  largest : (a : ℕ) (moves : Step) → fold max a (map (memory_of room) moves) ≡ max a (step_cost room moves)
+  unfolding step_cost
+  largest a [] = omega arith
+  largest a (move ∷ moves) = largest (max a (memory_of room move)) moves ∙ omega arith
+
+  pub largest-is : (step : Step) → unwrap_or (reduce max (map (memory_of room) step)) 0 ≡ step_cost room step
+  unfolding step_cost
+  largest-is [] = refl
+  largest-is (move ∷ moves) = largest (memory_of room move) moves
+
+  largest-from : (a : ℕ) (moves : Step) → a < 2 ^ 24 → fold max a (map (capped room) moves) < 2 ^ 24
+  largest-from a [] h = h
+  largest-from a (move ∷ moves) h = largest-from (max a (capped room move)) moves (omega arith)
+
+  pub largest-low : (step : Step) → unwrap_or (reduce max (map (capped room) step)) 0 < 2 ^ 24
+  largest-low [] = omega arith
+  largest-low (move ∷ moves) = largest-from (capped room move) moves (omega arith)
+
+  module _ (before : ℕ) where
+    summed-from : (a : ℕ) (moves : Step) → fold (λ n move. n + (memory_of room move + before)) a moves ≡ a + sum_of (λ move. memory_of room move + before) moves
+    unfolding sum_of
+    summed-from a [] = omega arith
+    summed-from a (move ∷ moves) = summed-from (a + (memory_of room move + before)) moves ∙ omega arith
+
+    pub summed-is : (step : Step) → sum_by (λ move. memory_of room move + before) step ≡ moves_cost room before step
+    unfolding moves_cost
+    summed-is step = summed-from 0 step ∙ omega arith
+
+    summed-low : (a : ℕ) (moves : Step) → before + 16777215 ≤ 8589934080 → fold (λ n move. n + (capped room move + before)) a moves ≤ a + length moves * 8589934080
+    summed-low a [] b = omega arith
+    summed-low a (move ∷ moves) b = let k = summed-low (a + (capped room move + before)) moves b in omega arith
+
+    pub summed-most : (step : Step) → before + 16777215 ≤ 8589934080 → sum_by (λ move. capped room move + before) step ≤ length step * 8589934080
+    summed-most step b = let k = summed-low 0 step b in omega arith

@@ -3,22 +3,23 @@ use Prim.Native.Nat.{ℕ, zero, suc, ◌+◌, ◌≤◌, ◌<◌}
 use mathlib.Core.Bool.{Bool, true, false, not, ◌&&◌, ◌||◌}
 use mathlib.Core.List.{List, [], ◌∷◌}
 use mathlib.Core.Logic.{◌⊎◌, inl, inr, ⊎_elim, by_cases}
-use mathlib.Core.Path.{◌≡◌, refl, sym, ap, ap₂, ◌∙◌}
-use native.Mathlib.Decide.{ℕ_discrete, dec_lt}
+use mathlib.Core.Path.{◌≡◌, refl, sym, ap, ap₂, subst, ◌∙◌}
+use native.Mathlib.Decide.{ℕ_discrete}
 use native.Mathlib.Omega.{arith}
 use lib.ListN.{length, get_or, set, length-set, length-replicate, get_or-replicate}
 use lib.Seq.{get_or-take, get_or-set_same, get_or-set_other}
 use lib.Dec.{ltb, leb, eqb}
-use borrow.Author.Tests.{ltb-true, eq-eqb, ne_eqb, eqb-false, not-true}
+use borrow.Author.Tests.{ltb-true, leb-true, leb-false, eq-eqb, ne_eqb, eqb-false, not-true}
+use Rattle.std.specs.List.{list_all}
 use Rattle.records.specs.Base.{all}
-use Rattle.records.specs.Room.{Room, vm_of, nowhere, on_node, place_ok, IsSound}
+use Rattle.records.specs.Room.{Room, vm_of, node_of, nowhere, on_node, place_ok, IsSound}
 use Rattle.records.specs.Plan.{Move, Step, move_of}
 use Rattle.records.proofs.Laws.Bools.{and_left, and_right, and_both}
-use Rattle.records.proofs.Laws.Rows.{node-on, far-off, place-either, not-between, place-more}
-use Rattle.rules.specs.Moments.{Placement, place_of, target_of, waiting, empty_tally, bears_at, tally_at, phase_of, cells_from, first_moment, begun, all_running}
-use Rattle.rules.specs.Rules.{aims, named, fitting, has_move}
+use Rattle.records.proofs.Laws.Rows.{node-on, place-either, not-between, place-more}
+use Rattle.rules.specs.Moments.{Placement, Moment, place_of, target_of, waiting, empty_tally, bears, bears_at, tally_at, phase_of, cells_from, first_moment, begun, all_running}
+use Rattle.rules.specs.Rules.{aims, named, allowed, permitted, fitting, has_move}
 use Rattle.rules.specs.Orders.{some}
-use Rattle.rules.specs.Inner.{held, dests_from, no_move, goal_in, busy_from, Ready, Loads, Aimed, borne_in, fits_in}
+use Rattle.rules.specs.Inner.{held, dests_from, no_move, goal_in, busy_from, Ready, Loads, Aimed, Allows, fits_running}
 use Rattle.rules.specs.declared.tally.Tally.{Tally}
 
 -- ---- the pass over the moves of a step
@@ -45,15 +46,50 @@ module _ (room : Room) (move : Move) (moves : Step) (a : Aimed room (move ∷ mo
     pub aimed_on : move.to < length room.nodes → on_node move.to ≡ true
     aimed_on h = node-on (length room.nodes) move.to w.nodes-most h
 
-module _ (room : Room) (move : Move) (moves : Step) (sums : List Tally) (result ok : Bool) (inv : fits_in room sums (move ∷ moves) ≡ result)
-    (f : ok ≡ borne_in room (get_or sums move.to empty_tally) move) where
-  pub fits_not : ok ≡ false → false ≡ result
-  unfolding fits_in all
-  fits_not o = simp (sym f ∙ o) at inv
+-- a sum is the tally of its node
+pub load_is : (room : Room) (places dests : List ℕ) (sums : List Tally) (d : ℕ) → Loads room places dests sums → IsSound room → d < length room.nodes →
+    get_or sums d empty_tally ≡ tally_at room d (busy_from places dests 0 (length room.vms))
+load_is room places dests sums d l w h = let m = w.nodes-most in l.each d (omega arith)
 
-  pub fits_more : ok ≡ true → fits_in room sums moves ≡ result
-  unfolding fits_in all
-  fits_more o = simp (sym f ∙ o) at inv
+-- a move that its node bears leaves the rest of the step to decide
+pub fits_more : (room : Room) (places dests : List ℕ) (move : Move) (moves : Step) (result ok : Bool) → fits_running room places dests (move ∷ moves) ≡ result →
+    ok ≡ bears_at room move.to (tally_at room move.to (busy_from places dests 0 (length room.vms))) (vm_of room move.vm) → ok ≡ true → fits_running room places dests moves ≡ result
+unfolding fits_running all
+fits_more room places dests move moves result ok inv f o = simp (sym f ∙ o) at inv
+
+-- the same of all moves, as one test of the step
+module _ (room : Room) (w : IsSound room) where
+  -- a move of the step
+  pub aimed-at : (move : Move) (step : Step) (k : ℕ) → Aimed room step → k < length step → move ≡ get_or step k move → move.vm < length room.vms
+  aimed-at move [] k a h e = absurd (omega arith)
+  aimed-at move (m ∷ ms) zero a h e = subst (λ (x : Move). x.vm < length room.vms) (sym e) (aimed_vm room m ms a)
+  aimed-at move (m ∷ ms) (suc k) a h e = aimed-at move ms k (aimed_rest room m ms a) (omega arith) e
+
+  pub fits-listed : (places dests : List ℕ) (sums : List Tally) (step : Step) → Aimed room step → Loads room places dests sums →
+      list_all (λ move. leb (length room.nodes) move.to || bears (node_of room move.to) (get_or sums move.to empty_tally) (vm_of room move.vm)) step ≡ fits_running room places dests step
+  unfolding fits_running bears_at all
+  fits-listed places dests sums [] a l = refl
+  fits-listed places dests sums (m ∷ ms) a l = ap₂ (λ (x y : Bool). x && y) (one (leb (length room.nodes) m.to) refl) (fits-listed places dests sums ms (aimed_rest room m ms a) l)
+    where
+      one : (b : Bool) → leb (length room.nodes) m.to ≡ b → (b || bears (node_of room m.to) (get_or sums m.to empty_tally) (vm_of room m.vm)) ≡
+          bears_at room m.to (tally_at room m.to (busy_from places dests 0 (length room.vms))) (vm_of room m.vm)
+      one true e = rw (aimed_off room m ms a w (leb-true (length room.nodes) m.to e)) refl
+      one false e =
+          let h : m.to < length room.nodes = leb-false (length room.nodes) m.to e in
+          rw (aimed_on room m ms a w h, load_is room places dests sums m.to l w h) refl
+
+  pub permitted-listed : (table : List (List Bool)) (step : Step) → Aimed room step → Allows room table →
+      list_all (λ move. leb (length room.nodes) move.to || get_or (get_or table move.vm []) move.to false) step ≡ permitted room step
+  unfolding permitted allowed all
+  permitted-listed table [] a t = refl
+  permitted-listed table (m ∷ ms) a t = ap₂ (λ (x y : Bool). x && y) (one (leb (length room.nodes) m.to) refl) (permitted-listed table ms (aimed_rest room m ms a) t)
+    where
+      one : (b : Bool) → leb (length room.nodes) m.to ≡ b → (b || get_or (get_or table m.vm []) m.to false) ≡ allowed room m.vm m.to
+      one true e = rw (aimed_off room m ms a w (leb-true (length room.nodes) m.to e)) refl
+      one false e =
+          let h : m.to < length room.nodes = leb-false (length room.nodes) m.to e in
+          let n = w.nodes-most in
+          t.each m.vm m.to (aimed_vm room m ms a) (omega arith)
 
 -- ---- the destinations of an array are those of the step
 
@@ -198,22 +234,6 @@ module _ (room : Room) (places : Placement) where
       inr (λ y. named-leaves least move moves e (sym g ∙ y ∙ ap (place_of places) (sym x))))
       (λ x. rw (get_or-set_other (dests_from moves) move.vm v move.to 0 (λ y. x (sym y))) (named-goal (suc move.vm) moves v h (named-rest least move moves e)))
 
--- tests of tallies that agree on all nodes below 64
-each_same : (sums : List Tally) (tally : ℕ → Tally) (room : Room) (step : Step) → far step ≡ true → ((d : ℕ) → d < 64 → get_or sums d empty_tally ≡ tally d) →
-    all (λ move. bears_at room move.to (get_or sums move.to empty_tally) (vm_of room move.vm)) step ≡
-    all (λ move. bears_at room move.to (tally move.to) (vm_of room move.vm)) step
-unfolding far all bears_at
-each_same sums tally room [] f e = refl
-each_same sums tally room (move ∷ moves) f e =
-    ap₂ (λ (x y : Bool). x && y) (one (and_left (place_ok true 64 move.to) (all (λ m. place_ok true 64 m.to) moves) f))
-    (each_same sums tally room moves (and_right (place_ok true 64 move.to) (all (λ m. place_ok true 64 m.to) moves) f) e)
-  where
-    one : place_ok true 64 move.to ≡ true →
-        bears_at room move.to (get_or sums move.to empty_tally) (vm_of room move.vm) ≡ bears_at room move.to (tally move.to) (vm_of room move.vm)
-    one p =
-        by_cases (dec_lt move.to 64) (λ h. rw (e move.to h))
-        (λ h. let k : 64 ≤ move.to = omega arith in rw (far-off 64 move.to (omega arith) p k))
-
 pub first-is : (room : Room) (places : Placement) (step : Step) → first_moment room places step ≡ cells_from places step 0 (length room.vms)
 unfolding first_moment
 first-is room places step = refl
@@ -225,9 +245,7 @@ module _ (room : Room) (places : List ℕ) (step : Step) (w : IsSound room) (n :
   named-is-aimed = record { vms = named-vms room (held room places) 0 step n; each = named-aimed room (held room places) 0 step n }
 
   pub named-ready : Ready room places (dests_from step)
-  named-ready =
-      let vms = w.vms-most in
-      record { leaves = λ v h l x. ⊎_elim (λ y. omega arith) (λ y. y (x ∙ sym (held_at room places v h))) (named-goal room (held room places) 0 step v (omega arith) n) }
+  named-ready = record { leaves = λ v h b l x. ⊎_elim (λ y. omega arith) (λ y. y (x ∙ sym (held_at room places v h))) (named-goal room (held room places) 0 step v b n) }
 
   far-step : far step ≡ true
   far-step = named-far room (held room places) 0 step w.nodes-most n
@@ -246,9 +264,6 @@ module _ (room : Room) (places : List ℕ) (step : Step) (w : IsSound room) (n :
   pub phase-dest : (v d : ℕ) → v < 256 → phase_of step v ≡ waiting d → get_or (dests_from step) v 0 ≡ d
   phase-dest v d h e = waits-dest step v d h e
 
-  pub fitting-is : (sums : List Tally) (r : Bool) → r ≡ fits_in room sums step → Loads room places (dests_from step) sums → r ≡ fitting room (held room places) step
-  unfolding fits_in fitting
-  fitting-is sums r e l =
-      e ∙
-      each_same sums (λ d. tally_at room d (all_running (first_moment room (held room places) step))) room step far-step
-      (λ d h. l.each d h ∙ ap (tally_at room d) running-is)
+  pub fitting-is : fits_running room places (dests_from step) step ≡ fitting room (held room places) step
+  unfolding fits_running fitting
+  fitting-is = ap (λ (m : Moment). all (λ move. bears_at room move.to (tally_at room move.to m) (vm_of room move.vm)) step) running-is

@@ -4,7 +4,7 @@ use mathlib.Core.Bool.{Bool, true, false, not, ◌&&◌, ◌||◌, and-false, or
 use mathlib.Core.List.{List, [], ◌∷◌}
 use mathlib.Core.Path.{◌≡◌, refl, sym, ap, ap₂, ◌∙◌}
 use native.Mathlib.Omega.{arith}
-use lib.ListN.{length, get_or, replicate, length-replicate, get_or-replicate}
+use lib.ListN.{length, get_or, replicate}
 use lib.Dec.{ltb, leb, eqb}
 use borrow.Author.Tests.{eq-eqb, ne_eqb, eqb-true, ltb-true, ltb-false, le-leb, lt-leb}
 use Rattle.std.specs.List.{list_all}
@@ -15,8 +15,8 @@ use Rattle.records.proofs.Laws.Rows.{near-is}
 use Rattle.rules.specs.Moments.{Placement, place_of, target_of}
 use Rattle.rules.specs.Orders.{some}
 use Rattle.rules.specs.Rules.{fits_all, spread_out, on_nodes, keeps}
-use Rattle.rules.specs.Inner.{held, Placed, array_of, stopped, stops_of, go_unmet, clear_of, all_down, group_holds, keeps_in}
-use Rattle.rules.proofs.Laws.Allow.{stopped-at}
+use Rattle.rules.specs.Inner.{held, Placed, array_of, only, all_but, go_unmet, clear_of, all_down, group_holds, keeps_in}
+use Rattle.rules.proofs.Laws.Allow.{only_at, all_but_at}
 use Rattle.rules.proofs.Laws.Places.{target-holds, target-placed}
 use Rattle.rules.proofs.Laws.Fit.{held_at}
 use Rattle.rules.proofs.Laws.Meet.{arrives, go-arrives, marks-none, has-below}
@@ -39,13 +39,9 @@ unfolding some
 some_same p q e [] = refl
 some_same p q e (x ∷ xs) = rw (e x, some_same p q e xs)
 
-mark-one : (b : Bool) → not (pick b true false) ≡ not b
-mark-one true = refl
-mark-one false = refl
-
-mark-zero : (b : Bool) → not (pick b false true) ≡ b
-mark-zero true = refl
-mark-zero false = refl
+not-not : (b : Bool) → not (not b) ≡ b
+not-not true = refl
+not-not false = refl
 
 -- a test of the VMs on nodes
 all_up : (places : Placement) (q : ℕ → Bool) (vms : List ℕ) → all q (on_nodes places vms) ≡ all (λ v. pick (on_node (place_of places v)) (q v) true) vms
@@ -87,16 +83,14 @@ module _ (room : Room) (places : List ℕ) (w : IsSound room) (p : Placed room p
       go d false t = let l = ltb-false d 64 t in rw (le-leb 64 d l)
 
   module _ (vms : List ℕ) (o : list_ok (length room.vms) vms ≡ true) where
-    clear-ban : (nodes : List ℕ) → clear_of (stopped (replicate 64 false) true nodes) places vms ≡ all (λ v. not (has nodes (place_of (held room places) v))) (on_nodes (held room places) vms)
+    clear-ban : (nodes : List ℕ) → clear_of (only nodes) places vms ≡ all (λ v. not (has nodes (place_of (held room places) v))) (on_nodes (held room places) vms)
     clear-ban nodes =
-        clear-is (stopped (replicate 64 false) true nodes) (λ d. not (has nodes d))
-        (λ d b. rw (stopped-at (replicate 64 false) nodes true d (length-replicate {A = Bool} 64 false) b, get_or-replicate {A = Bool} 64 d false false b, mark-one (has nodes d))) vms o ∙
+        clear-is (only nodes) (λ d. not (has nodes d)) (λ d b. ap not (only_at nodes d b)) vms o ∙
         sym (all_up (held room places) (λ v. not (has nodes (place_of (held room places) v))) vms)
 
-    clear-fence : (nodes : List ℕ) → clear_of (stopped (replicate 64 true) false nodes) places vms ≡ all (λ v. has nodes (place_of (held room places) v)) (on_nodes (held room places) vms)
+    clear-fence : (nodes : List ℕ) → clear_of (all_but nodes) places vms ≡ all (λ v. has nodes (place_of (held room places) v)) (on_nodes (held room places) vms)
     clear-fence nodes =
-        clear-is (stopped (replicate 64 true) false nodes) (λ d. has nodes d)
-        (λ d b. rw (stopped-at (replicate 64 true) nodes false d (length-replicate {A = Bool} 64 true) b, get_or-replicate {A = Bool} 64 d true false b, mark-zero (has nodes d))) vms o ∙
+        clear-is (all_but nodes) (λ d. has nodes d) (λ d b. ap not (all_but_at nodes d b) ∙ not-not (has nodes d)) vms o ∙
         sym (all_up (held room places) (λ v. has nodes (place_of (held room places) v)) vms)
 
     clear-down : all_down places vms ≡ eqb (length (on_nodes (held room places) vms)) 0
@@ -202,7 +196,7 @@ module _ (room : Room) (places : List ℕ) (w : IsSound room) (p : Placed room p
       (out-is vms u o (ups-in vms) ∙ ap (spread_out (held room places)) (ups-are vms vms o (λ v h. h)))
 
   kept-is : (k : Constraint) → constraint_ok (length room.vms) (length room.nodes) k ≡ true → keeps_in places k ≡ keeps (held room places) k
-  unfolding keeps_in keeps constraint_ok stops_of
+  unfolding keeps_in keeps constraint_ok
   kept-is (ban vms nodes) c = clear-ban room places w p vms (and_left (list_ok (length room.vms) vms) _ c) nodes
   kept-is (fence vms nodes) c = clear-fence room places w p vms (and_left (list_ok (length room.vms) vms) _ c) nodes
   kept-is (spread vms) c = spread-is vms c

@@ -140,9 +140,9 @@ module _ (room : Room) (places dests : List ℕ) (v : ℕ) (sums : List Tally) (
 
 -- the turn, at VM v
 module _ (room : Room) (places dests : List ℕ) (v q p : ℕ) (sums : List Tally) (vm : Need) (one two : Tally) (w : Loaded room places dests v sums)
-    (r : Ready room places dests) (m : NeedOf room v vm) (y : q ≡ get_or dests v 0) (x : p ≡ get_or places v 0) (load-dest : q < 256) (load-place : p < 256) (h : v < length room.vms) where
+    (r : Ready room places dests) (m : NeedOf room v vm) (y : q ≡ get_or dests v 0) (x : p ≡ get_or places v 0) (load-dest : q < 256) (load-place : p < 256) (h : v < length room.vms) (bound : v < 256) where
   load-leaves : (d : ℕ) → d < 64 → q ≡ d → p ≡ d → ⊥
-  load-leaves d l e f = r.leaves v h (rw (← y, e) l) (sym y ∙ e ∙ sym f ∙ x)
+  load-leaves d l e f = r.leaves v h bound (rw (← y, e) l) (sym y ∙ e ∙ sym f ∙ x)
 
   module _ (a : one ≡ record { memory = (get_or sums q empty_tally).memory + vm.memory; cpu = (get_or sums q empty_tally).cpu + vm.cpu })
       (b : two ≡ record { memory = (get_or (set sums q one) p empty_tally).memory + vm.memory; cpu = (get_or (set sums q one) p empty_tally).cpu + vm.cpu }) where

@@ -365,7 +365,7 @@ module _ (room : Room) (places : List ℕ) (step : Step) (w : IsSound room) (n :
         let inside : (x : ℕ) → has vs x ≡ true → x < length room.vms = list-in vs c in
         list_all places (dests_from step) vs (and_left (rises vs) _ c)
         (λ v u a b q l. by_cases (ℕ_discrete v u)
-        (λ y. r.leaves v (inside v a) l (sym q ∙ ap (λ (x : ℕ). get_or places x 0) (sym y)))
+        (λ y. let m = w.vms-most in let k = inside v a in r.leaves v k (omega arith) l (sym q ∙ ap (λ (x : ℕ). get_or places x 0) (sym y)))
         (λ y. let z = clear v u (inside v a) (inside u b) (spread-mates i d vs h e v u a b y) l in
         eqb-false (get_or places u 0) (get_or (dests_from step) v 0) (neither (eqb (get_or places u 0) (get_or (dests_from step) v 0)) (eqb (get_or (dests_from step) u 0) (get_or (dests_from step) v 0)) z).0 q))
         (λ v u a b y q l. let z = clear v u (inside v a) (inside u b) (spread-mates i d vs h e v u a b y) l in

@@ -11,7 +11,7 @@ use borrow.Author.Tests.{lt-ltb, le-ltb, ltb-true, ltb-false}
 use Rattle.std.specs.Prelude.{Ok}
 use Rattle.records.specs.Base.{pick}
 use Rattle.records.specs.Bytes.{AreBytes}
-use Rattle.records.specs.Room.{most_reserve, room_at, cluster_check}
+use Rattle.records.specs.Room.{room_at}
 use Rattle.records.specs.Plan.{move_total, steps_of, most_steps, plan_check, header_bytes, kept_version, written_version, front_of, written}
 use Rattle.records.specs.declared.faults.PlanFault.{PlanFault}
 use Rattle.records.proofs.Laws.Sound.{read-amounts}
@@ -29,6 +29,7 @@ use Rattle.rules.proofs.Laws.Orders.{never}
 use Rattle.rules.proofs.Laws.Returned.{accepted-says}
 use Rattle.rules.proofs.Laws.Costs.{cost-low}
 use Rattle.rules.proofs.Laws.Verdicts.{only-holds, accepted-steps, step-most}
+use Rattle.rules.proofs.Laws.Taken.{plan-whole}
 use Rattle.rules.proofs.Laws.Contract.{contract}
 use Rattle.split.specs.Splits.{all_singles, split_record, least_split, divided_into, on_verdict, accepted_split, split_of, buffer_of, packed_split}
 use Rattle.split.specs.Promises.{SplitWell, told_divided, TellsSplit, Splits, Split}
@@ -112,16 +113,6 @@ own-many : (f : Fault) → Refused TooMany ≡ Refused (Check f) → ⊥
 own-many f e = never (cc)
 
 -- ---- the contracts of the inner functions
-
-module _ (reserve : ℕ) (cluster plan : List ℕ) (accepts : Accepts reserve cluster plan) where
-  pub reserve-taken : reserve ≤ most_reserve
-  reserve-taken = (only-holds reserve cluster plan accepts.0 accepts.1).0.taken.reserve-taken
-
-  pub cluster-whole : cluster_check cluster ≡ Ok tt
-  cluster-whole = (only-holds reserve cluster plan accepts.0 accepts.1).0.taken.cluster-whole
-
-  pub plan-whole : plan_check plan ≡ Ok tt
-  plan-whole = (only-holds reserve cluster plan accepts.0 accepts.1).0.plan-whole
 
 module _ (reserve : ℕ) (cluster plan before : List ℕ) where
   pub splits-refused : (f : Fault) → verdict_of reserve cluster plan ≡ Verdict.Refused f → Splits reserve cluster plan before before (Refused (Check f))

@@ -1,20 +1,19 @@
 -- Laws on counting the moves of all steps, and on putting each into the buffer as a step of its own; the record that results.
-use Prim.Native.Nat.{ℕ, ◌+◌, ◌*◌, ◌≤◌, ◌<◌}
+use Prim.Native.Nat.{ℕ, ◌+◌, ◌*◌, ◌≤◌}
 use mathlib.Core.Bool.{true, ◌&&◌}
 use mathlib.Core.List.{List, [], ◌∷◌, ◌++◌, append_assoc, append-nil}
 use mathlib.Core.Path.{◌≡◌, refl, sym, ap, ◌∙◌}
 use native.Mathlib.Nat.{mul-le-mul_left}
-use native.Mathlib.Numerals.{add-one}
 use native.Mathlib.Omega.{arith}
-use lib.ListN.{length, get_or, take, drop, length-append, take-append-drop}
-use lib.Seq.{take-suc, take_at, length-take-le, take_all}
+use lib.ListN.{length, take, drop, length-append, take-append-drop}
+use lib.Seq.{take_at, length-take-le}
 use lib.Dec.{leb}
 use borrow.Author.Tests.{leb-true}
 use Rattle.std.specs.Prelude.{Ok}
 use Rattle.std.specs.List.{fold, sum_by}
 use Rattle.records.specs.Base.{all, sum_of}
 use Rattle.records.specs.Bytes.{bytes16, bytes32}
-use Rattle.records.specs.Plan.{Step, no_move, move_of, sized, shaped, move_total, steps_of, source_bytes, move_bytes, moves_bytes, step_bytes, steps_bytes, header_bytes, record_bytes, kept_version, names_sources, most_steps, plan_check, front_of, written}
+use Rattle.records.specs.Plan.{Step, sized, shaped, move_total, steps_of, source_bytes, move_bytes, moves_bytes, step_bytes, steps_bytes, header_bytes, record_bytes, kept_version, names_sources, most_steps, plan_check, front_of, written}
 use Rattle.records.specs.Room.{Room}
 use Rattle.records.specs.Inner.{suits}
 use Rattle.records.specs.declared.plan.Move.{Move}
@@ -49,6 +48,14 @@ total-append : (steps others : List Step) → move_total (steps ++ others) ≡ m
 unfolding move_total sum_of
 total-append [] others = omega arith
 total-append (step ∷ steps) others = let e = total-append steps others in omega arith
+
+-- ---- what a loop has gone over, and what is left
+
+pub left-next : {A : Type 0} (put left rest whole : List A) (next : A) → put ++ left ≡ whole → left ≡ next ∷ rest → (put ++ (next ∷ [])) ++ rest ≡ whole
+left-next put left rest whole next both e = append_assoc put (next ∷ []) rest ∙ ap (λ l. put ++ l) (sym e) ∙ both
+
+left-none : {A : Type 0} (put left whole : List A) → put ++ left ≡ whole → left ≡ [] → put ≡ whole
+left-none put left whole both e = sym (append-nil put) ∙ ap (λ l. put ++ l) (sym e) ∙ both
 
 -- ---- one move
 
@@ -92,44 +99,39 @@ put_one move end r l m e f =
     let k = single-low move in
     record { is = f ∙ ap (written l end) (sym n); ends = e ∙ ap (λ (x : List ℕ). end + length x) (sym n); low = omega arith }
 
-singles-snoc : (step : Step) (i : ℕ) → i < length step → singles (take (i + 1) step) ≡ singles (take i step) ++ ((move_of step i ∷ []) ∷ [])
-unfolding singles move_of
-singles-snoc step i h = rw add-one (ap singles (take-suc step i no_move h) ∙ mapped (take i step) (get_or step i no_move))
-  where
-    mapped : (xs : Step) (x : Move) → singles (xs ++ (x ∷ [])) ≡ singles xs ++ ((x ∷ []) ∷ [])
-    mapped [] x = refl
-    mapped (y ∷ ys) x = ap (λ (l : List Step). (y ∷ []) ∷ l) (mapped ys x)
+singles-snoc : (step : Step) (move : Move) → singles (step ++ (move ∷ [])) ≡ singles step ++ ((move ∷ []) ∷ [])
+unfolding singles
+singles-snoc [] move = refl
+singles-snoc (first ∷ step) move = ap (λ (l : List Step). (first ∷ []) ∷ l) (singles-snoc step move)
 
 put-length : (steps : List Step) (start end : ℕ) (before out : List ℕ) → PutSteps steps start before out end → start + length steps * 5 ≤ length before → length out ≡ length before
 put-length steps start end before out p h =
     let a = p.ends in let b = p.low in
     ap length p.is ∙ written-length before start (steps_bytes steps) (omega arith)
 
--- i of its moves are put
-pub step-start : (before : List ℕ) (step : Step) (start : ℕ) → PutSteps (singles (take 0 step)) start before before start
+pub step-start : (start : ℕ) (before : List ℕ) → PutSteps (singles []) start before before start
 unfolding singles
-step-start before step start = put-none start before
+step-start start before = put-none start before
 
-module _ (step : Step) (before out : List ℕ) (start i end : ℕ) (p : PutSteps (singles (take i step)) start before out end) (room : start + length step * 5 ≤ length before) where
-  module _ (h : i < length step) where
-    taken : length (singles (take i step)) ≡ i
-    taken = singles-length (take i step) ∙ length-take-le i step (omega arith)
+-- some of its moves are put, and one of those left comes next
+module _ (step put left rest : Step) (move : Move) (before out : List ℕ) (start end : ℕ) (p : PutSteps (singles put) start before out end) (both : put ++ left ≡ step)
+    (comes : left ≡ move ∷ rest) (room : start + length step * 5 ≤ length before) where
+  count-put : length (singles put) + 1 ≤ length step
+  count-put = let e = ap length both in let f = length-append put left in let l = ap length comes in let s = singles-length put in omega arith
 
-    pub step-room : end + 5 ≤ length out
-    step-room =
-        let a = p.low in let t = taken in
-        let l = put-length (singles (take i step)) start end before out p (omega arith) in
-        omega arith
+  pub step-room : end + 5 ≤ length out
+  step-room =
+      let a = p.low in let c = count-put in
+      let l = put-length (singles put) start end before out p (omega arith) in
+      omega arith
 
-    pub step-more : (move : Move) (next : List ℕ) (r : ℕ) → move ≡ move_of step i → r ≡ end + length (step_bytes (move ∷ [])) → next ≡ written out end (step_bytes (move ∷ [])) →
-        PutSteps (singles (take (i + 1) step)) start before next r
-    step-more move next r e f g =
-        let t = taken in
-        rw (singles-snoc step i h, ← e)
-        (put_both (singles (take i step)) ((move ∷ []) ∷ []) start end r before out next p (put_one move end r out next f g) (omega arith))
+  pub step-more : (next : List ℕ) (r : ℕ) → r ≡ end + length (step_bytes (move ∷ [])) → next ≡ written out end (step_bytes (move ∷ [])) → PutSteps (singles (put ++ (move ∷ []))) start before next r
+  step-more next r e f =
+      let c = count-put in
+      rw (singles-snoc put move) (put_both (singles put) ((move ∷ []) ∷ []) start end r before out next p (put_one move end r out next e f) (omega arith))
 
-  pub step-done : length step ≤ i → PutSteps (singles step) start before out end
-  step-done h = rw (take_all i step h) at p
+pub step-done : (step put left : Step) (before out : List ℕ) (start end : ℕ) → PutSteps (singles put) start before out end → put ++ left ≡ step → left ≡ [] → PutSteps (singles step) start before out end
+step-done step put left before out start end p both e = rw (← left-none put left step both e) p
 
 -- ---- all steps
 
@@ -143,11 +145,11 @@ all-snoc [] step = append-nil (singles step)
 all-snoc (first ∷ steps) step = ap (λ (l : List Step). singles first ++ l) (all-snoc steps step) ∙ sym (append_assoc (singles first) (all_singles steps) (singles step))
 
 -- some steps are put, and one of those left comes next
-module _ (steps put rest : List Step) (step : Step) (before out : List ℕ) (end : ℕ) (p : PutSteps (all_singles put) 7 before out end) (both : put ++ (step ∷ rest) ≡ steps)
-    (few : move_total steps ≤ most_steps) (long : least_split ≤ length before) where
+module _ (steps put left rest : List Step) (step : Step) (before out : List ℕ) (end : ℕ) (p : PutSteps (all_singles put) 7 before out end) (both : put ++ left ≡ steps)
+    (comes : left ≡ step ∷ rest) (few : move_total steps ≤ most_steps) (long : least_split ≤ length before) where
   count-left : move_total put + length step ≤ most_steps
   unfolding move_total sum_of
-  count-left = let e = ap move_total both in let f = total-append put (step ∷ rest) in omega arith
+  count-left = let e = ap move_total both in let f = total-append put left in let l = ap move_total comes in omega arith
 
   pub putting-room : end + length step * 5 ≤ length out
   putting-room =
@@ -160,11 +162,8 @@ module _ (steps put rest : List Step) (step : Step) (before out : List ℕ) (end
       let c = count-left in let l = all-length put in let s = singles-length step in
       rw (all-snoc put step) (put_both (all_singles put) (singles step) 7 end r before out next p q (omega arith))
 
-  pub putting-left : (put ++ (step ∷ [])) ++ rest ≡ steps
-  putting-left = append_assoc put (step ∷ []) rest ∙ both
-
-pub putting-end : (steps put rest : List Step) (before out : List ℕ) (end : ℕ) → PutSteps (all_singles put) 7 before out end → put ++ rest ≡ steps → rest ≡ [] → PutSteps (all_singles steps) 7 before out end
-putting-end steps put rest before out end p both e = let same : put ≡ steps = sym (append-nil put) ∙ ap (λ (l : List Step). put ++ l) (sym e) ∙ both in rw same at p
+pub putting-end : (steps put left : List Step) (before out : List ℕ) (end : ℕ) → PutSteps (all_singles put) 7 before out end → put ++ left ≡ steps → left ≡ [] → PutSteps (all_singles steps) 7 before out end
+putting-end steps put left before out end p both e = rw (← left-none put left steps both e) p
 
 -- ---- the record
 

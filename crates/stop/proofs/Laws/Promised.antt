@@ -12,8 +12,8 @@ use borrow.Author.Tests.{lt-ltb, le-ltb, le-leb, eq-eqb, ltb-true, ltb-false, le
 use Rattle.std.specs.Prelude.{Result, Ok, Err}
 use Rattle.records.specs.Base.{pick, all}
 use Rattle.records.specs.Bytes.{AreBytes}
-use Rattle.records.specs.Room.{Room, most_reserve, node_of, room_of, room_at, at_reserve, at_places, updated, cluster_check}
-use Rattle.records.specs.Plan.{Step, steps_of, plan_check}
+use Rattle.records.specs.Room.{Room, node_of, room_of, room_at, at_reserve, at_places, updated, cluster_check}
+use Rattle.records.specs.Plan.{Step, steps_of}
 use Rattle.records.proofs.Laws.Bools.{and_left, and_right, and_both}
 use Rattle.records.proofs.Laws.Cluster.{nodes-most, whole-most}
 use Rattle.records.proofs.Laws.Reserve.{room-nodes}
@@ -30,6 +30,7 @@ use Rattle.rules.proofs.Laws.Orders.{never, after-length}
 use Rattle.rules.proofs.Laws.Reserve.{current-same, named-same}
 use Rattle.rules.proofs.Laws.Returned.{accepted-says}
 use Rattle.rules.proofs.Laws.Verdicts.{only-holds, step-most, current-length}
+use Rattle.rules.proofs.Laws.Taken.{cluster-whole}
 use Rattle.rules.proofs.Laws.Contract.{contract}
 use Rattle.stop.specs.Stops.{numbered, ended_moves, marked, marks_ok, stopped_at, stopped_record, accepted_stop, on_verdict, stop_of, buffer_of, packed_stop, told_length}
 use Rattle.stop.specs.Promises.{Stops, StoppedWell, StepMarked, MarksKnown, TellsStop, Stopped, as_placed}
@@ -182,15 +183,6 @@ named-all-same reserve room places [] = refl
 named-all-same reserve room places (step ∷ steps) = rw (named-same reserve room places 0 step, named-all-same reserve room (after places step) steps)
 
 module _ (reserve : ℕ) (cluster plan : List ℕ) (a : Accepts reserve cluster plan) where
-  pub reserve-taken : reserve ≤ most_reserve
-  reserve-taken = (only-holds reserve cluster plan a.0 a.1).0.taken.reserve-taken
-
-  pub cluster-whole : cluster_check cluster ≡ Ok tt
-  cluster-whole = (only-holds reserve cluster plan a.0 a.1).0.taken.cluster-whole
-
-  pub plan-whole : plan_check plan ≡ Ok tt
-  plan-whole = (only-holds reserve cluster plan a.0 a.1).0.plan-whole
-
   names : named_all (room_at reserve cluster) (current_of (room_at reserve cluster)) (steps_of plan) ≡ true
   names = (only-holds reserve cluster plan a.0 a.1).1
 

@@ -1,16 +1,12 @@
-use mathlib.Core.Path.{refl, sym, ap, ◌∙◌}
+use mathlib.Core.Path.{sym, ap, ◌∙◌}
 use Rattle.rules.specs.Cost.{cost_of}
-use Rattle.planner.proofs.Laws.Pairs.{blank-zeros}
 use Rattle.planner.proofs.Laws.Answers.{part_low, part_length, part-whole, answer-plan, answer-blocked}
 use Rattle.rules.proofs.Laws.Allow.{table-allows}
 use Rattle.planner.proofs.plan.planned.Goals as goal
 
-pub pair_table-requires : goal.pair_table-requires
-pair_table-requires c = blank-zeros 65536 refl
-
 pub invariant_of-tables : goal.invariant_of-tables
 invariant_of-tables c = record {
-  known = record { allowed = table-allows _ _ c.fill_allow_table.ensures c.pair_table.ensures.sound; paired = c.pair_table.ensures.pairs };
+  known = record { allowed = table-allows _ _ c.fill_allow_table.ensures.table c.fill_allow_table.ensures.sound; paired = c.pair_table.ensures.pairs };
 }
 
 pub slice_bounds-whole-end : goal.slice_bounds-whole-end

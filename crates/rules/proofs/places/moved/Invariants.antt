@@ -3,4 +3,4 @@ use Rattle.rules.specs.Moments.{after}
 use Rattle.rules.proofs.places.moved.Given as goal
 
 abbrev pub invariant-loop-m : goal.invariant-loop-m
-invariant-loop-m l = (after l.next l.m-iterator ≡ after l.fn.places l.step)
+invariant-loop-m l = (after l.places l.m-iterator ≡ after l.initial.places l.step)

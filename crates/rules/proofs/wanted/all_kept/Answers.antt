@@ -6,7 +6,7 @@ use Rattle.std.proofs.lemmas.Iterator.Consumers.{YieldsList-from_first}
 use Rattle.std.proofs.lemmas.Iterator.Search.{all_from_yields_List}
 use Rattle.records.specs.Room.{Constraint}
 use Rattle.rules.specs.Inner.{keeps_in}
-use Rattle.rules.proofs.Laws.Targets.{all-listed}
+use Rattle.records.proofs.Laws.Bools.{all-listed}
 use Rattle.rules.proofs.wanted.all_kept.Goals as goal
 
 pub returns : goal.returns

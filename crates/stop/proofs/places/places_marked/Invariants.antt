@@ -6,4 +6,4 @@ use Rattle.stop.specs.Stops.{ended_moves}
 use Rattle.stop.proofs.places.places_marked.Given as goal
 
 abbrev pub invariant-loop-ended : goal.invariant-loop-ended
-invariant-loop-ended l = after l.next (ended_moves (zip_first l.ended-iterator) (iter_rest (zip_second l.ended-iterator))) ≡ after l.initial.next (ended_moves l.step l.marks)
+invariant-loop-ended l = after l.places (ended_moves (zip_first l.ended-iterator) (iter_rest (zip_second l.ended-iterator))) ≡ after l.initial.places (ended_moves l.step l.marks)

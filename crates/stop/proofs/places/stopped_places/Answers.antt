@@ -16,11 +16,13 @@ returns-in_err-before c =
 one-more : (c : In_ok-before) → c.args.number ≡ suc c.in_ok-before.before
 one-more c = grind arith
 
-pub returns-in_default : goal.returns-in_default
-returns-in_default c = places-no-step _ _ _ _ _ (omega (arith, one-more (goal.at.returns-in_default c).In_ok-before)) _ c.marked_step.ensures (c.in_default.is)
+pub returns-in_err-step : goal.returns-in_err-step
+returns-in_err-step c =
+    let e : c.from_residual-in_err-step.result ≡ Err NoStep = grind arith in
+    e ∙ places-no-step _ _ _ _ _ (omega (arith, one-more (goal.at.returns-in_err-step c).In_ok-before)) _ c.marked_step.ensures (grind arith)
 
 pub returns-then-not-marks_sound : goal.returns-then-not-marks_sound
-returns-then-not-marks_sound c = search (rules, places-bad-mark)
+returns-then-not-marks_sound c = places-bad-mark _ _ _ _ _ (omega (arith, one-more (goal.at.returns-then-not-marks_sound c).In_ok-before)) _ c.marked_step.ensures c.in_ok-step.step (grind arith) _ c.marks_sound.ensures (search rules)
 
 pub returns : goal.returns
-returns c = places-are _ _ _ _ _ (omega (arith, one-more (goal.at.returns c).In_ok-before)) _ c.marked_step.ensures _ (search rules) _ c.marks_sound.ensures _ _ (search rules) c.places_before-places.ensures c.places_marked.ensures
+returns c = places-are _ _ _ _ _ (omega (arith, one-more (goal.at.returns c).In_ok-before)) _ c.marked_step.ensures c.in_ok-step.step (grind arith) _ c.marks_sound.ensures _ _ (search rules) c.places_before-places.ensures c.places_marked.ensures

@@ -1,13 +1,9 @@
 use borrow.Author.Rules.{rules}
 use mathlib.Core.Path.{◌∙◌}
 use native.Mathlib.Omega.{arith}
-use Rattle.rules.proofs.Laws.Targets.{rest-ready}
 use Rattle.planner.proofs.Laws.Turning.{directing-start, directing-goes, directing-stays, directing-end}
 use Rattle.planner.proofs.board.Board.direct_step.Goals as goal
 use Rattle.planner.proofs.board.Board.direct_step.Goals.{then-may_join, else-may_join}
-
-pub loads-sums-requires : goal.loads-sums-requires
-loads-sums-requires c = search (rules, rest-ready)
 
 pub loop-v-init : goal.loop-v-init
 loop-v-init c = search (rules, directing-start)

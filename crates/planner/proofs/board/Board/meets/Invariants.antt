@@ -1,4 +1,5 @@
 use Prim.Native.Nat.{◌-◌}
+use mathlib.Core.Bool.{◌||◌}
 use mathlib.Core.Path.{◌≡◌}
 use lib.ListN.{length}
 use Rattle.rules.specs.Inner.{busy_from}
@@ -7,5 +8,5 @@ use Rattle.planner.proofs.board.Board.meets.Given as goal
 
 abbrev pub invariant-loop-w : goal.invariant-loop-w
 invariant-loop-w at =
-    meets_mate at.self.cluster.now (busy_from at.self.places.now at.dests at.w (length at.self.cluster.now.vms - at.w)) at.v at.d ≡
+    (at.met || meets_mate at.self.cluster.now (busy_from at.self.places.now at.dests at.w (length at.self.cluster.now.vms - at.w)) at.v at.d) ≡
     meets_mate at.self.cluster.now (busy_from at.self.places.now at.dests 0 (length at.self.cluster.now.vms)) at.v at.d

@@ -1,13 +1,9 @@
 use mathlib.Core.Path.{refl, sym, ◌∙◌}
 use borrow.Author.Rules.{rules}
 use native.Mathlib.Omega.{arith}
-use Rattle.rules.proofs.Laws.Targets.{rest-ready}
 use Rattle.planner.proofs.Laws.Lone.{first-start, first_found, first_more, first-none}
 use Rattle.planner.proofs.Laws.Pivots.{useful-node-there}
 use Rattle.planner.proofs.board.Board.pivot_step.Goals as goal
-
-pub loads-sums-requires : goal.loads-sums-requires
-loads-sums-requires c = search (rules, rest-ready)
 
 pub loop-v-init : goal.loop-v-init
 loop-v-init c = search (rules, first-start)

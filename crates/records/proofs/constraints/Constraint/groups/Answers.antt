@@ -1,30 +1,43 @@
-use Rattle.std.proofs.Common.{arith, refl}
-use Rattle.records.proofs.Laws.Views.{formed_filled, groups_empty, groups_sound, groups_most, groups_there, groups_start, groups_all}
+use Rattle.std.proofs.Common.{◌∙◌, ap, sym, refl}
+use Rattle.records.specs.Room.{kind_of, groups_of, groups_end}
+use Rattle.records.proofs.Laws.Constraints.{of-latency, groups-there, groups-start, groups-all}
+use Rattle.records.proofs.Laws.Views.{formed_filled, groups_sound, groups_most, no-groups}
 use Rattle.records.proofs.constraints.Constraint.groups.Goals as goal
 
-pub others_at-at-requires : goal.others_at-at-requires
-others_at-at-requires c = (formed_filled _ c.self.invariant, omega arith)
+pub lists-requires : goal.lists-requires
+lists-requires c = (formed_filled _ c.self.invariant, λ k. of-latency _ c.in-Latency.is (c.kind.ensures ∙ sym (ap kind_of c.self.view_is) ∙ k))
 
-pub bounds-self-inside-at : goal.bounds-self-inside-at
-bounds-self-inside-at c = groups_there _ _ c.self.invariant c.self.view_is c.if-self-eq4.true _ _ c.others_at-at.ensures.0 refl
+pub slice_bounds-rest-count : goal.slice_bounds-rest-count
+slice_bounds-rest-count c = groups-there _ (formed_filled _ c.self.invariant) (ap kind_of c.self.view_is ∙ sym c.kind.ensures ∙ c.in-Latency.is) _ c.lists.ensures.1
+
+pub slice_bounds-rest-start : goal.slice_bounds-rest-start
+slice_bounds-rest-start c = groups-there _ (formed_filled _ c.self.invariant) (ap kind_of c.self.view_is ∙ sym c.kind.ensures ∙ c.in-Latency.is) _ c.lists.ensures.1
+
+pub bounds-others-0 : goal.bounds-others-0
+bounds-others-0 c = groups-there _ (formed_filled _ c.self.invariant) (ap kind_of c.self.view_is ∙ sym c.kind.ensures ∙ c.in-Latency.is) _ c.lists.ensures.1
 
 pub invariant_of-t-6 : goal.invariant_of-t-6
-invariant_of-t-6 c = groups_start _ _ c.self.invariant c.self.view_is c.if-self-eq4.true _ _ c.others_at-at.ensures.0 c.from.ensures
+invariant_of-t-6 c = groups-start _ (formed_filled _ c.self.invariant) (ap kind_of c.self.view_is ∙ sym c.kind.ensures ∙ c.in-Latency.is) _ c.lists.ensures.1 _ c.from-left.ensures
 
-pub returns-then-self-eq4-clause-groups : goal.returns-then-self-eq4-clause-groups
-returns-then-self-eq4-clause-groups c = groups_all _ _ c.self.invariant c.self.view_is c.if-self-eq4.true _ _ c.others_at-at.ensures.0 c.from.ensures
+pub invariant_of-result : goal.invariant_of-result
+unfolding groups_end
+invariant_of-result c = refl
 
-pub returns-then-self-eq4-clause-sound : goal.returns-then-self-eq4-clause-sound
-returns-then-self-eq4-clause-sound c = groups_sound _ _ c.self.invariant c.self.view_is _ (returns-then-self-eq4-clause-groups c)
+pub returns-in-Latency-clause-groups : goal.returns-in-Latency-clause-groups
+returns-in-Latency-clause-groups c =
+    groups-all _ (formed_filled _ c.self.invariant) (ap kind_of c.self.view_is ∙ sym c.kind.ensures ∙ c.in-Latency.is) _ c.lists.ensures.1 _ c.from-left.ensures ∙ ap groups_of c.self.view_is
 
-pub returns-then-self-eq4-clause-few : goal.returns-then-self-eq4-clause-few
-returns-then-self-eq4-clause-few c = groups_most _ _ c.self.invariant c.self.view_is _ (returns-then-self-eq4-clause-groups c)
+pub returns-in-Latency-clause-sound : goal.returns-in-Latency-clause-sound
+returns-in-Latency-clause-sound c = groups_sound _ _ c.self.invariant c.self.view_is _ (returns-in-Latency-clause-groups c)
 
-pub returns-else-self-eq4-clause-groups : goal.returns-else-self-eq4-clause-groups
-returns-else-self-eq4-clause-groups c = groups_empty _ _ c.self.invariant c.self.view_is c.if-self-eq4.false
+pub returns-in-Latency-clause-few : goal.returns-in-Latency-clause-few
+returns-in-Latency-clause-few c = groups_most _ _ c.self.invariant c.self.view_is _ (returns-in-Latency-clause-groups c)
 
-pub returns-else-self-eq4-clause-sound : goal.returns-else-self-eq4-clause-sound
-returns-else-self-eq4-clause-sound c = groups_sound _ _ c.self.invariant c.self.view_is _ (returns-else-self-eq4-clause-groups c)
+pub returns-in_default-clause-groups : goal.returns-in_default-clause-groups
+returns-in_default-clause-groups c = no-groups _ (λ k. c.in_default.not-Latency (c.kind.ensures ∙ k))
 
-pub returns-else-self-eq4-clause-few : goal.returns-else-self-eq4-clause-few
-returns-else-self-eq4-clause-few c = groups_most _ _ c.self.invariant c.self.view_is _ (returns-else-self-eq4-clause-groups c)
+pub returns-in_default-clause-sound : goal.returns-in_default-clause-sound
+returns-in_default-clause-sound c = groups_sound _ _ c.self.invariant c.self.view_is _ (returns-in_default-clause-groups c)
+
+pub returns-in_default-clause-few : goal.returns-in_default-clause-few
+returns-in_default-clause-few c = groups_most _ _ c.self.invariant c.self.view_is _ (returns-in_default-clause-groups c)

@@ -1,25 +1,24 @@
-use Rattle.std.proofs.Common.{◌∙◌, ap, arith}
-use Rattle.records.specs.Room.{nodes_of}
-use Rattle.records.proofs.Laws.Constraints.{nodes-start, nodes-part, nodes-none}
-use Rattle.records.proofs.Laws.Views.{formed_filled, formed-nodes}
+use Rattle.std.proofs.Common.{◌∙◌, ap, sym}
+use Rattle.records.specs.Room.{kind_of, nodes_of}
+use Rattle.records.proofs.Laws.Constraints.{ban-or-fence, nodes-there, nodes-are}
+use Rattle.records.proofs.Laws.Views.{formed_filled, formed-nodes, no-nodes}
 use Rattle.records.proofs.constraints.Constraint.nodes.Goals as goal
 
-pub others_at-start-requires : goal.others_at-start-requires
-others_at-start-requires c = (formed_filled _ c.self.invariant, omega arith)
+pub lists-requires : goal.lists-requires
+lists-requires c = (formed_filled _ c.self.invariant, λ k. ban-or-fence _ c.in-Ban.is (c.kind.ensures ∙ sym (ap kind_of c.self.view_is) ∙ k))
 
 pub slice_bounds-result-count : goal.slice_bounds-result-count
-slice_bounds-result-count c = nodes-start _ (formed_filled _ c.self.invariant) c.if-self-lt3.true _ c.others_at-start.ensures.0
+slice_bounds-result-count c = nodes-there _ (formed_filled _ c.self.invariant) _ (ap kind_of c.self.view_is ∙ sym c.kind.ensures) c.in-Ban.is _ c.lists.ensures.1
 
 pub slice_bounds-result-start : goal.slice_bounds-result-start
-slice_bounds-result-start c = nodes-start _ (formed_filled _ c.self.invariant) c.if-self-lt3.true _ c.others_at-start.ensures.0
+slice_bounds-result-start c = nodes-there _ (formed_filled _ c.self.invariant) _ (ap kind_of c.self.view_is ∙ sym c.kind.ensures) c.in-Ban.is _ c.lists.ensures.1
 
-pub returns-then-self-lt3-clause-nodes : goal.returns-then-self-lt3-clause-nodes
-returns-then-self-lt3-clause-nodes c =
-    nodes-part _ (formed_filled _ c.self.invariant) c.if-self-lt3.true _ c.others_at-start.ensures.0 ∙ ap nodes_of c.self.view_is
+pub returns-in-Ban-clause-nodes : goal.returns-in-Ban-clause-nodes
+returns-in-Ban-clause-nodes c =
+    nodes-are _ (formed_filled _ c.self.invariant) _ (ap kind_of c.self.view_is ∙ sym c.kind.ensures) c.in-Ban.is _ c.lists.ensures.1 ∙ ap nodes_of c.self.view_is
 
-pub returns-then-self-lt3-clause-below : goal.returns-then-self-lt3-clause-below
-returns-then-self-lt3-clause-below c =
-    formed-nodes _ _ c.self.invariant (nodes-part _ (formed_filled _ c.self.invariant) c.if-self-lt3.true _ c.others_at-start.ensures.0)
+pub returns-in-Ban-clause-below : goal.returns-in-Ban-clause-below
+returns-in-Ban-clause-below c = formed-nodes _ _ c.self.invariant (returns-in-Ban-clause-nodes c ∙ sym (ap nodes_of c.self.view_is))
 
-pub returns-else-self-lt3-clause-nodes : goal.returns-else-self-lt3-clause-nodes
-returns-else-self-lt3-clause-nodes c = nodes-none _ (formed_filled _ c.self.invariant) c.if-self-lt3.false ∙ ap nodes_of c.self.view_is
+pub returns-in_default-clause-nodes : goal.returns-in_default-clause-nodes
+returns-in_default-clause-nodes c = no-nodes _ (λ k. c.in_default.not-Ban (c.kind.ensures ∙ k)) (λ k. c.in_default.not-Fence (c.kind.ensures ∙ k))

@@ -1,26 +1,24 @@
 use Rattle.std.proofs.Common.{◌≡◌, [], sym, ◌∙◌, arith}
 use Rattle.std.proofs.lemmas.Grind.{common_steps}
-use Rattle.records.proofs.Laws.Views.{groups_none, group_fits, group_end, group_next, group_is}
+use Rattle.records.proofs.Laws.Views.{groups_none, group_left, group_fits, group_next, group_is}
 use Rattle.records.proofs.constraints.GroupsIterator.next.Goals as goal
 
-pub returns-then-self-eq0-clause-steps : goal.returns-then-self-eq0-clause-steps
-returns-then-self-eq0-clause-steps c =
-    let e : c.args.self.now ≡ [] = sym c.self.view_is ∙ groups_none _ _ _ c.if-self-eq0.true in (e, e)
+pub returns-in_err-count-clause-steps : goal.returns-in_err-count-clause-steps
+returns-in_err-count-clause-steps c =
+    let e : c.args.self.now ≡ [] = sym c.self.view_is ∙ groups_none _ _ c.self.invariant c.in_err-count.ensures.cases in
+    rw c.from_residual.ensures (e, e)
 
-pub group_nodes-nodes-requires : goal.group_nodes-nodes-requires
-group_nodes-nodes-requires c = group_fits _ _ _ c.self.invariant (omega arith)
+pub split_at-requires : goal.split_at-requires
+split_at-requires c = rw c.from.ensures (group_fits _ _ c.self.invariant _ _ c.in_ok-count.ensures.cases.0)
 
-pub overflow_add-self-2 : goal.overflow_add-self-2
-overflow_add-self-2 c =
-    let f = group_fits _ _ _ c.self.invariant (omega arith) in
-    let e = group_end _ _ _ c.self.invariant (omega arith) _ c.group_nodes-nodes.ensures in
-    omega arith
+pub overflow_sub-self : goal.overflow_sub-self
+overflow_sub-self c = group_left _ _ c.self.invariant _ _ c.in_ok-count.ensures.cases.0
 
 pub invariant_of-self : goal.invariant_of-self
-invariant_of-self c = group_next _ _ _ c.self.invariant (omega arith) _ c.group_nodes-nodes.ensures
+invariant_of-self c = rw (c.split_at.ensures.back, c.from.ensures) (group_next _ _ c.self.invariant _ _ c.in_ok-count.ensures.cases.0)
 
 pub returns-clause-steps : goal.returns-clause-steps
-returns-clause-steps c = sym c.self.view_is ∙ group_is _ _ _ c.self.invariant (omega arith) _ c.group_nodes-nodes.ensures
+returns-clause-steps c = sym c.self.view_is ∙ (rw (c.split_at.ensures.front, c.split_at.ensures.back, c.from.ensures) (group_is _ _ c.self.invariant _ _ c.in_ok-count.ensures.cases.0))
 
 pub returns-clause-goes : goal.returns-clause-goes
 returns-clause-goes c = let e = returns-clause-steps c in grind (arith, common_steps, e)

@@ -1,6 +1,0 @@
-use Rattle.records.proofs.Laws.Parts.{part-is}
-use borrow.Author.Rules.{rules}
-use Rattle.records.proofs.walk.part.Goals as goal
-
-pub returns : goal.returns
-returns c = search (rules, part-is)
