@@ -31,8 +31,8 @@ pub const MOST_KEPT: usize = 65536;
 // The first bytes of a file.
 pub type Buffer = [u8; MOST_KEPT];
 
-// Of a plan file the size matters up to what a record can state, which is one less.
-const MOST_COUNTED: u64 = 1 << 32;
+// Of a plan file the size matters up to what a record can state, which is one less than 2^32: so many bytes past the buffer are counted.
+const MOST_PAST: u64 = (1 << 32) - 65536;
 
 // Reads the first bytes, as many as there are or as the buffer holds, and tells how many.
 fn fill<F: Read>(file: &mut F, buffer: &mut [u8]) -> io::Result<usize>
@@ -41,10 +41,11 @@ fn fill<F: Read>(file: &mut F, buffer: &mut [u8]) -> io::Result<usize>
     let mut size: usize = 0;
     for _ in 0..buffer.len() {
         let n = file.read(&mut buffer[size..])?;
-        if n == 0 {
+        size += n;
+        // A full buffer is not read into again: not every source takes a read of no bytes.
+        if n == 0 || size == buffer.len() {
             break;
         }
-        size += n;
     }
     Ok(size)
 }
@@ -55,7 +56,7 @@ fn fill_and_count<F: Read>(file: &mut F, buffer: &mut Buffer) -> io::Result<usiz
     if size < buffer.len() {
         return Ok(size);
     }
-    let past = io::copy(&mut file.take(MOST_COUNTED), &mut io::sink())?;
+    let past = io::copy(&mut file.take(MOST_PAST), &mut io::sink())?;
     Ok(size.saturating_add(usize::try_from(past).unwrap_or(usize::MAX)))
 }
 

@@ -1,5 +1,5 @@
 // Which VMs are named by one spread, decided once for a call: a mark for each pair. And whether a VM meets a mate.
-ghost use Rattle.std.specs.Prelude.{◌≡◌, false, ◌<◌, length, replicate};
+ghost use Rattle.std.specs.Prelude.{◌≡◌, false, ◌||◌, ◌<◌, eqb, get_or, length, replicate};
 ghost use Rattle.records.specs.Room.{IsSound};
 ghost use Rattle.rules.specs.Inner.{busy_from};
 ghost use Rattle.rules.specs.Orders.{meets_mate};
@@ -8,6 +8,9 @@ ghost use Rattle.planner.specs.Inner.{pair_row, pair_rows, paired, Pairs};
 use crate::board::Board;
 use records::{Cluster, Constraint, Kind};
 use rules::{Destinations, VMS};
+
+// How many VMs are looked at before the others: a mate that is met among them is told at once.
+const FIRST_LOOK: usize = 32;
 
 // For each VM its mates.
 pub type PairTable = [[bool; VMS]; VMS];
@@ -51,6 +54,14 @@ pub fn pair_table(cluster: &Cluster<'_>, table: &mut PairTable)
 }
 
 impl Board<'_> {
+    // Whether VM w counts on a node: it is there, or on its way there. Both are looked at, so that the compiler can do many VMs at once.
+    fn counts(&self, dests: &Destinations, w: usize, node: u8) -> bool
+        requires { w < 256 }
+        ensures { result ≡ (eqb (get_or self.now.places.now w 0) node || eqb (get_or dests.now w 0) node) }
+    {
+        (self.places[w] == node) | (dests[w] == node)
+    }
+
     // Whether a mate of VM v counts on node d: it is there, or on its way there with the moves of the array of destinations.
     pub fn meets(&self, dests: &Destinations, v: usize, d: usize) -> bool
         requires vm { v < length self.now.cluster.now.vms }
@@ -61,10 +72,18 @@ impl Board<'_> {
         let node = d as u8;
         let mut mates = self.pairs[v];
         mates[v] = false;
-        // Every VM is looked at, whatever was found, so that the compiler can do many at once.
+        // Of the first VMs and of the others, every one is looked at, whatever was found, so that the compiler can do many at once.
+        let count = self.cluster.vm_count();
+        let first = count.min(FIRST_LOOK);
         let mut met = false;
-        for w in 0..self.cluster.vm_count() {
-            met |= mates[w] & ((self.places[w] == node) | (dests[w] == node));
+        for w in 0..first {
+            met |= mates[w] & self.counts(dests, w, node);
+        }
+        if met {
+            return true;
+        }
+        for w in first..count {
+            met |= mates[w] & self.counts(dests, w, node);
         }
         met
     }

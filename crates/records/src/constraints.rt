@@ -2,8 +2,8 @@
 #![tactic(auto, using(crate::proofs::Laws::Constraints::kind_within, crate::proofs::Laws::Views::formed_within))]
 
 ghost use Rattle.std.specs.Iterator.{YieldsFirstRef, item_count};
-ghost use Rattle.std.specs.Prelude.{List, ℕ, ◌≡◌, ◌≢◌, true, ◌≤◌, ◌<◌, ◌⊎◌, MatchOption, length, drop};
-ghost use Rattle.records.specs.Room.{Constraint as Meaning, groups_from, groups_end, list_ok, kind_of, vms_of, nodes_of, groups_of, first_of, second_of, others_at, constraint_of, filled, well_formed};
+ghost use Rattle.std.specs.Prelude.{List, ℕ, ◌≡◌, ◌≢◌, true, ◌+◌, ◌≤◌, ◌<◌, ◌⊎◌, MatchOption, length, drop};
+ghost use Rattle.records.specs.Room.{Constraint as Meaning, groups_from, groups_end, list_ok, kind_of, vms_of, nodes_of, groups_of, first_of, second_of, nodes_at, nodes_end, others_at, constraint_of, filled, well_formed};
 ghost use Rattle.records.specs.declared.constraints.Kind.{Kind};
 ghost use Rattle.records.specs.Base.{all};
 ghost use Rattle.records.specs.Inner.{Below, kind_number, nodes_ok, groups_ok, pair_ok};
@@ -103,6 +103,87 @@ fn lists(p: &[u8]) -> (&[u8], &[u8])
     p[5..].split_at(count16(p, 3))
 }
 
+// The kind of a constraint.
+#[tactic(auto, using(crate::proofs::Laws::Constraints::kind_within), unfolding(crate::specs::Room::constraint_of, crate::specs::Room::kind_of))]
+pub fn kind_at(p: &[u8]) -> Kind
+    requires { filled p.now ≡ true }
+    ensures { result ≡ kind_of (constraint_of p.now) }
+{
+    // Not by `Kind::of`: this is asked of every constraint at every step, and the number is known to be a kind's.
+    match p[2] {
+        1 => Kind::Ban,
+        2 => Kind::Fence,
+        3 => Kind::Spread,
+        4 => Kind::Latency,
+        _ => Kind::Before,
+    }
+}
+
+// The VM list of a constraint; none of one that has two VMs.
+pub fn bound_vms(p: &[u8]) -> &[u8]
+    requires { filled p.now ≡ true }
+    ensures { result.now ≡ vms_of (constraint_of p.now) }
+{
+    match kind_at(p) {
+        Kind::Before => &[],
+        _ => lists(p).0,
+    }
+}
+
+// The nodes that a ban or a fence names; none of another kind.
+pub fn named_nodes(p: &[u8]) -> &[u8]
+    requires { filled p.now ≡ true }
+    ensures { result.now ≡ nodes_of (constraint_of p.now) }
+{
+    match kind_at(p) {
+        Kind::Ban | Kind::Fence => &lists(p).1[1..],
+        _ => &[],
+    }
+}
+
+// How many groups a latency constraint has.
+pub fn group_count(p: &[u8]) -> usize
+    requires { (filled p.now ≡ true) × (kind_of (constraint_of p.now) ≡ Kind.Latency) }
+    ensures { (result ≡ length (groups_of (constraint_of p.now))) × (result < 256) }
+{
+    usize::from(lists(p).1[0])
+}
+
+// Where the first group starts; each next one starts where the one before it ends.
+pub fn first_group(p: &[u8]) -> usize
+    requires { (filled p.now ≡ true) × (kind_of (constraint_of p.now) ≡ Kind.Latency) }
+    ensures { result ≡ others_at p.now + 1 }
+{
+    5 + lists(p).0.len() + 1
+}
+
+// The nodes of the group at a place.
+#[tactic(auto, unfolding(crate::specs::Room::nodes_at))]
+pub fn group_nodes(p: &[u8], at: usize) -> &[u8]
+    requires { nodes_end p.now at ≤ length p.now }
+    ensures { result.now ≡ nodes_at p.now at }
+{
+    let start = at + 1;
+    let end = start + usize::from(p[at]);
+    &p[start..end]
+}
+
+// The VM that comes first, of a constraint that has two.
+pub fn first_vm(p: &[u8]) -> u8
+    requires { (filled p.now ≡ true) × (kind_of (constraint_of p.now) ≡ Kind.Before) }
+    ensures { result ≡ first_of (constraint_of p.now) }
+{
+    p[3]
+}
+
+// The VM that comes second.
+pub fn second_vm(p: &[u8]) -> u8
+    requires { (filled p.now ≡ true) × (kind_of (constraint_of p.now) ≡ Kind.Before) }
+    ensures { result ≡ second_of (constraint_of p.now) }
+{
+    p[4]
+}
+
 // A constraint of a cluster that was read.
 #[derive(Drop)]
 pub struct Constraint<'a> {
@@ -118,22 +199,17 @@ impl<'a> Model for Constraint<'a> {
 }
 
 impl<'a> Constraint<'a> {
-    #[tactic(auto, using(crate::proofs::Laws::Views::formed_within), unfolding(crate::specs::Room::constraint_of, crate::specs::Room::kind_of))]
     pub fn kind(&self) -> Kind
         ensures { result ≡ kind_of self.now }
     {
-        // A constraint that was read has a kind's number, so the default is never taken; its definition says "else before" too.
-        Kind::of(self.part[2]).unwrap_or(Kind::Before)
+        kind_at(self.part)
     }
 
     // The VMs that it binds; none if it has two VMs.
     pub fn vms(&self) -> &'a [u8]
         ensures { result.now ≡ vms_of self.now }
     {
-        match self.kind() {
-            Kind::Before => &[],
-            _ => lists(self.part).0,
-        }
+        bound_vms(self.part)
     }
 
     // The nodes that a ban or a fence names; none of another kind.
@@ -141,10 +217,7 @@ impl<'a> Constraint<'a> {
         ensures nodes { result.now ≡ nodes_of self.now }
         ensures below { Below 64 result.now }
     {
-        match self.kind() {
-            Kind::Ban | Kind::Fence => &lists(self.part).1[1..],
-            _ => &[],
-        }
+        named_nodes(self.part)
     }
 
     // The groups of a latency constraint; none of another kind.
@@ -169,7 +242,7 @@ impl<'a> Constraint<'a> {
         requires { kind_of self.now ≡ Kind.Before }
         ensures { result ≡ first_of self.now }
     {
-        self.part[3]
+        first_vm(self.part)
     }
 
     // The VM that comes second.
@@ -177,7 +250,7 @@ impl<'a> Constraint<'a> {
         requires { kind_of self.now ≡ Kind.Before }
         ensures { result ≡ second_of self.now }
     {
-        self.part[4]
+        second_vm(self.part)
     }
 }
 

@@ -1,9 +1,9 @@
 // A plan record: whether it is whole, refusals 11 to 14, and its moves, read in place.
 #![tactic(auto, using(crate::proofs::Laws::Steps::checking), unfolding(crate::specs::Plan::names_sources, crate::specs::Plan::move_width, crate::specs::Plan::source_at, crate::specs::Plan::move_at, crate::specs::Plan::kept_version))]
 
-ghost use Rattle.std.specs.Prelude.{◌≡◌, ◌&&◌, ◌+◌, ◌≤◌, ◌<◌, length, eqb};
+ghost use Rattle.std.specs.Prelude.{◌≡◌, ◌&&◌, ◌+◌, ◌*◌, ◌≤◌, ◌<◌, ◌^◌, length, eqb};
 ghost use Rattle.records.specs.Bytes.{version_of};
-ghost use Rattle.records.specs.Plan.{step_count, move_at, move_width, names_sources, source_at, steps_of, steps_end, shaped, kept_version, PlanRead};
+ghost use Rattle.records.specs.Plan.{step_count, step_at, step_end, move_count, move_of, move_at, move_width, names_sources, source_at, steps_of, steps_end, shaped, kept_version, PlanRead};
 ghost use Rattle.records.specs.Inner.{steps_ok};
 
 use crate::bytes::count16;
@@ -149,4 +149,53 @@ pub fn move_at(s: &[u8], place: usize) -> Move
         source: source_at(s, place + 1),
         to: s[place + width - 1],
     }
+}
+
+// How many moves the step at a place has.
+pub fn move_count(s: &[u8], at: usize) -> usize
+    requires { step_end s.now at ≤ length s.now }
+    ensures { (result ≡ move_count s.now at) × (result < 2 ^ 16) }
+{
+    count16(s, at)
+}
+
+// Where the step at a place ends, and the next one starts.
+pub fn step_end(s: &[u8], at: usize) -> usize
+    requires { step_end s.now at ≤ length s.now }
+    ensures { result ≡ step_end s.now at }
+{
+    at + 2 + move_count(s, at) * move_width(s)
+}
+
+// Move i of the step at a place.
+#[tactic(auto, using(crate::proofs::Laws::Steps::reading))]
+pub fn move_in(s: &[u8], at: usize, i: usize) -> Move
+    requires { (step_end s.now at ≤ length s.now) × (i < move_count s.now at) }
+    ensures { result ≡ move_of (step_at s.now at) i }
+{
+    move_at(s, at + 2 + i * move_width(s))
+}
+
+// The VM of move i of the step at a place.
+pub fn move_vm(s: &[u8], at: usize, i: usize) -> u8
+    requires { (step_end s.now at ≤ length s.now) × (i < move_count s.now at) }
+    ensures { result ≡ (move_of (step_at s.now at) i).vm }
+{
+    move_in(s, at, i).vm
+}
+
+// Its destination.
+pub fn move_to(s: &[u8], at: usize, i: usize) -> u8
+    requires { (step_end s.now at ≤ length s.now) × (i < move_count s.now at) }
+    ensures { result ≡ (move_of (step_at s.now at) i).to }
+{
+    move_in(s, at, i).to
+}
+
+// The source that it names.
+pub fn move_source(s: &[u8], at: usize, i: usize) -> Source
+    requires { (step_end s.now at ≤ length s.now) × (i < move_count s.now at) }
+    ensures { result ≡ (move_of (step_at s.now at) i).source }
+{
+    move_in(s, at, i).source
 }

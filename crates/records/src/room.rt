@@ -3,7 +3,7 @@
 
 ghost use Rattle.std.specs.Prelude.{◌≡◌, true, IfOk, ◌+◌, ◌*◌, ◌/◌, ◌≤◌, ◌<◌, ◌^◌, length, set, Ok};
 ghost use Rattle.records.specs.Inner.{WasRead, current_in};
-ghost use Rattle.records.specs.Room.{Room, IsSound, KnownPlaces, cluster_read, node_count, vm_count, vms_start, room_at, node_of, vm_of, most_reserve, usable, place_ok, cluster_check};
+ghost use Rattle.records.specs.Room.{Room, IsSound, KnownPlaces, cluster_read, node_count, vm_count, vms_start, current_at, room_at, node_of, vm_of, most_reserve, usable, place_ok, cluster_check};
 
 use crate::bytes::{be16, be24};
 use crate::cluster::cluster_check;
@@ -34,6 +34,14 @@ fn vm_row(s: &[u8], v: usize) -> usize
     Header { bytes: s }.vms_start() + v * 7
 }
 
+// Where the byte with the current place of VM v stands.
+pub fn current_at(s: &[u8], v: usize) -> usize
+    requires { (cluster_check s.now ≡ Ok tt) × (v < vm_count s.now) }
+    ensures { (result ≡ current_at s.now v) × (result < length s.now) }
+{
+    vm_row(s, v) + 5
+}
+
 // What is usable of an amount when so many percent of it are kept, rounded down.
 #[tactic(auto, using(crate::proofs::Laws::Reserve::share_fits), unfolding(crate::specs::Room::usable))]
 fn usable_of(reserve: u64, amount: u64) -> u64
@@ -60,6 +68,8 @@ impl<'a> Model for Cluster<'a> {
 
 // A method for each field of a row: they share `node_row` and `vm_row`, and a field that is passed would be no shorter.
 impl<'a> Cluster<'a> {
+    // In place at each call, so that a reserve that is not taken is told before anything is called.
+    #[inline(always)]
     pub fn read(reserve: u64, bytes: &'a [u8]) -> Result<Cluster<'a>, ReadFault>
         ensures read { result ≡ cluster_read reserve bytes.now }
         ensures sound { IfOk result IsSound }
@@ -137,7 +147,7 @@ impl<'a> Cluster<'a> {
         ensures current { result ≡ (vm_of self.now v).current }
         ensures place { place_ok true (length self.now.nodes) result ≡ true }
     {
-        self.bytes[vm_row(self.bytes, v) + 5]
+        self.bytes[current_at(self.bytes, v)]
     }
 
     // Where VM v is wanted.
@@ -155,8 +165,7 @@ impl<'a> Cluster<'a> {
         requires within { current_in self.now v < length copy.old }
         ensures { copy.new ≡ set copy.old (current_in self.now v) place }
     {
-        let at = vm_row(self.bytes, v) + 5;
-        copy[at] = place;
+        copy[current_at(self.bytes, v)] = place;
     }
 
     pub fn constraints(&self) -> Constraints<'a>

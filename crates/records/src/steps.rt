@@ -9,7 +9,9 @@ ghost use Rattle.records.specs.Inner.{Steps as StepsStand};
 
 use crate::bytes::count16;
 use crate::faults::PlanFault;
-use crate::plan::{FIRST_STEP, Move, move_at, move_width, plan_check};
+use crate::plan::{
+    FIRST_STEP, Move, move_at, move_count, move_in, move_width, plan_check, step_end,
+};
 use std::marker::Model;
 
 // A plan that is not damaged.
@@ -73,6 +75,18 @@ impl<'a> Model for Moves<'a> {
     ghost invariant = { λ m. m.at + m.left * move_width m.bytes.now ≤ length m.bytes.now };
 }
 
+// The moves of the step at a place of a plan.
+pub fn moves_at(plan: &[u8], at: usize) -> Moves<'_>
+    requires { step_end plan.now at ≤ length plan.now }
+    ensures { result ≡ step_at plan.now at }
+{
+    Moves {
+        bytes: plan,
+        at: at + 2,
+        left: move_count(plan, at),
+    }
+}
+
 impl<'a> Plan<'a> {
     pub fn read(bytes: &'a [u8]) -> Result<Plan<'a>, PlanFault>
         ensures { result ≡ plan_read bytes.now }
@@ -128,7 +142,7 @@ impl<'a> Iterator for Steps<'a> {
             bytes: self.bytes,
             at: self.at,
         };
-        self.at += 2 + step.len() * move_width(self.bytes);
+        self.at = step_end(self.bytes, self.at);
         self.left -= 1;
         Some(step)
     }
@@ -140,25 +154,21 @@ impl<'a> Step<'a> {
         ensures count { result ≡ length self.now }
         ensures sized { sized self.now ≡ true }
     {
-        count16(self.bytes, self.at)
+        move_count(self.bytes, self.at)
     }
 
     pub fn get(&self, i: usize) -> Move
         requires { i < length self.now }
         ensures { result ≡ move_of self.now i }
     {
-        move_at(self.bytes, self.at + 2 + i * move_width(self.bytes))
+        move_in(self.bytes, self.at, i)
     }
 
     pub fn moves(&self) -> Moves<'a>
         ensures is { result ≡ self.now }
         ensures sized { sized self.now ≡ true }
     {
-        Moves {
-            bytes: self.bytes,
-            at: self.at + 2,
-            left: self.len(),
-        }
+        moves_at(self.bytes, self.at)
     }
 }
 

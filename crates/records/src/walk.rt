@@ -1,10 +1,10 @@
 // The constraints of a cluster record, one behind the other by their stated lengths.
-ghost use Rattle.std.specs.Prelude.{List, ℕ, ◌≡◌, ◌+◌, ◌<◌, true, length, map, eqb, MatchOption};
+ghost use Rattle.std.specs.Prelude.{List, ℕ, ◌≡◌, ◌+◌, ◌<◌, ◌≤◌, true, length, map, eqb, MatchOption};
 ghost use Rattle.records.specs.Base.{all};
 ghost use Rattle.std.specs.Iterator.{YieldsFirst, YieldsFirstRef, item_count};
-ghost use Rattle.records.specs.Room.{Constraint as Meaning, constraint_of, parts_from, parts_end, well_formed};
+ghost use Rattle.records.specs.Room.{Constraint as Meaning, constraint_of, part_end, part_at, parts_from, parts_end, well_formed};
 
-use crate::bytes::front_count;
+use crate::bytes::{count16, front_count};
 use crate::constraints::Constraint;
 use std::marker::Model;
 
@@ -25,6 +25,15 @@ pub fn constraints_fill(constraints: &[u8], count: usize) -> bool
     ensures { result ≡ eqb (parts_end constraints.now 0 count) (length constraints.now) }
 {
     behind(constraints, count).is_some_and(|rest| rest.is_empty())
+}
+
+// The constraint at a place: the part of the record from its first byte to its stated end.
+pub fn part(s: &[u8], at: usize) -> &[u8]
+    requires { part_end s.now at ≤ length s.now }
+    ensures { result.now ≡ part_at s.now at }
+{
+    let end = at + 2 + count16(s, at);
+    &s[at..end]
 }
 
 // The constraints that are left, each the part of the record from its first byte to its stated end; they fill the rest.
@@ -50,11 +59,14 @@ impl<'a> Iterator for Parts<'a> {
     ghost remaining = { item_count (λ rest. rest) };
 
     fn next(&mut self) -> Option<&'a [u8]> {
-        let (size, _) = front_count(self.rest)?;
-        let (part, rest) = self.rest.split_at(2 + size);
-        self.rest = rest;
+        // Not by `front_count`: this is asked of every constraint at every step, and what is left is known to be long enough.
+        if self.left == 0 {
+            return None;
+        }
+        let first = part(self.rest, 0);
+        self.rest = &self.rest[first.len()..];
         self.left -= 1;
-        Some(part)
+        Some(first)
     }
 }
 

@@ -34,7 +34,7 @@ pub use tally::{Need, Tally, bears_vm, need_of};
 
 // Placements, destinations and the target.
 pub use allow::{allow_table, fill_allow_table};
-pub use places::{current_places, moved, target_places};
+pub use places::{current_places, moved, moved_at, target_places};
 pub use wanted::{at_home, target_check};
 
 // The verdict on a plan for a cluster, with so many percent of each node kept free, on any number and any two byte strings: an accepted

@@ -253,64 +253,63 @@ module _ (reserve : ℕ) (cluster before : List ℕ) (t : Taken reserve cluster 
       go true = refl
       go false = refl
 
-  module _ (bytes : AreBytes cluster) where
-    -- its buffer
-    front-for : (a : Answer) (out : List ℕ) → refuses a ≡ false → out ≡ buffer_of a (plan_bytes (steps_for (room_at reserve cluster))) before → front_of out ≡ plan_bytes (steps_for (room_at reserve cluster))
-    unfolding buffer_of
-    front-for (Plan made) out r e = ap front_of e ∙ front-is (room_at reserve cluster) sound-room (drop (length (plan_bytes (steps_for (room_at reserve cluster)))) before)
-    front-for (Blocked made) out r e = ap front_of e ∙ front-is (room_at reserve cluster) sound-room (drop (length (plan_bytes (steps_for (room_at reserve cluster)))) before)
-    front-for (Refused fault) out r e = absurd (false≢true (sym r))
+  -- its buffer
+  front-for : (a : Answer) (out : List ℕ) → refuses a ≡ false → out ≡ buffer_of a (plan_bytes (steps_for (room_at reserve cluster))) before → front_of out ≡ plan_bytes (steps_for (room_at reserve cluster))
+  unfolding buffer_of
+  front-for (Plan made) out r e = ap front_of e ∙ front-is (room_at reserve cluster) sound-room (drop (length (plan_bytes (steps_for (room_at reserve cluster)))) before)
+  front-for (Blocked made) out r e = ap front_of e ∙ front-is (room_at reserve cluster) sound-room (drop (length (plan_bytes (steps_for (room_at reserve cluster)))) before)
+  front-for (Refused fault) out r e = absurd (false≢true (sym r))
 
-    module _ (made : Made) (plan : List ℕ) (p : plan ≡ plan_bytes (steps_for (room_at reserve cluster))) where
-      plan-steps : steps_of plan ≡ steps_for (room_at reserve cluster)
-      plan-steps = steps-back (room_at reserve cluster) sound-room plan p
+  module _ (bytes : AreBytes cluster) (made : Made) (plan : List ℕ) (p : plan ≡ plan_bytes (steps_for (room_at reserve cluster))) where
+    plan-steps : steps_of plan ≡ steps_for (room_at reserve cluster)
+    plan-steps = steps-back (room_at reserve cluster) sound-room plan p
 
-      written-made : made_of (room_at reserve cluster) (steps_for (room_at reserve cluster)) ≡ made → Written (room_at reserve cluster) plan made
-      written-made m = rw (← m) (written-for (room_at reserve cluster) sound-room plan p)
+    written-made : made_of (room_at reserve cluster) (steps_for (room_at reserve cluster)) ≡ made → Written (room_at reserve cluster) plan made
+    written-made m = rw (← m) (written-for (room_at reserve cluster) sound-room plan p)
 
-      -- what the checker says of it, by its contract
-      whole : Shaped reserve cluster plan
-      whole = record { taken = t.taken; plan-whole = whole-is (room_at reserve cluster) sound-room plan p }
+    -- what the checker says of it, by its contract
+    whole : Shaped reserve cluster plan
+    whole = record { taken = t.taken; plan-whole = whole-is (room_at reserve cluster) sound-room plan p }
 
-      checks : Checked reserve cluster plan (packed (verdict_of reserve cluster plan))
-      checks = contract reserve cluster plan bytes (packed (verdict_of reserve cluster plan)) refl
+    checks : Checked reserve cluster plan (packed (verdict_of reserve cluster plan))
+    checks = contract reserve cluster plan bytes (packed (verdict_of reserve cluster plan)) refl
 
-      accepted-is : EveryRun (room_at reserve cluster) (current_of (room_at reserve cluster)) (steps_of plan) → verdict_of reserve cluster plan ≡ Verdict.Accepted (cost_of (room_at reserve cluster) (steps_of plan))
-      accepted-is runs =
-          let w = written-for (room_at reserve cluster) sound-room plan p in
-          let good = (checks.exact whole w.named w.well-sourced).1 runs in
-          says-accepted (packed (verdict_of reserve cluster plan)) (verdict_of reserve cluster plan) checks.told good ∙ ap Verdict.Accepted (checks.cost good)
+    accepted-is : EveryRun (room_at reserve cluster) (current_of (room_at reserve cluster)) (steps_of plan) → verdict_of reserve cluster plan ≡ Verdict.Accepted (cost_of (room_at reserve cluster) (steps_of plan))
+    accepted-is runs =
+        let w = written-for (room_at reserve cluster) sound-room plan p in
+        let good = (checks.exact whole w.named w.well-sourced).1 runs in
+        says-accepted (packed (verdict_of reserve cluster plan)) (verdict_of reserve cluster plan) checks.told good ∙ ap Verdict.Accepted (checks.cost good)
 
-      refused-is : EndsAway (room_at reserve cluster) (current_of (room_at reserve cluster)) (steps_of plan) → verdict_of reserve cluster plan ≡ Verdict.Refused Fault.OffTarget
-      refused-is ends = (says-refused (packed (verdict_of reserve cluster plan)) (verdict_of reserve cluster plan) Fault.OffTarget checks.told).0 (checks.off-target.1 (whole, ends))
+    refused-is : EndsAway (room_at reserve cluster) (current_of (room_at reserve cluster)) (steps_of plan) → verdict_of reserve cluster plan ≡ Verdict.Refused Fault.OffTarget
+    refused-is ends = (says-refused (packed (verdict_of reserve cluster plan)) (verdict_of reserve cluster plan) Fault.OffTarget checks.told).0 (checks.off-target.1 (whole, ends))
 
-      planned-is : answer_of reserve cluster (length before) ≡ Plan made → Planned reserve cluster plan made
-      planned-is e =
-          let w = written-made (sym made-is ∙ ap made_in e) in
-          let h : home (room_at reserve cluster) (after_all (current_of (room_at reserve cluster)) (steps_for (room_at reserve cluster))) ≡ true =
-          not-false (home (room_at reserve cluster) (after_all (current_of (room_at reserve cluster)) (steps_for (room_at reserve cluster)))) (sym blocks_is ∙ ap blocks e) in
-          let runs : EveryRun (room_at reserve cluster) (current_of (room_at reserve cluster)) (steps_of plan) = rw plan-steps (runs-home (room_at reserve cluster) sound-room h) in
-          record { written = w; runs = runs; accepted = accepted-is runs ∙ ap Verdict.Accepted (sym w.cost) }
+    planned-is : answer_of reserve cluster (length before) ≡ Plan made → Planned reserve cluster plan made
+    planned-is e =
+        let w = written-made (sym made-is ∙ ap made_in e) in
+        let h : home (room_at reserve cluster) (after_all (current_of (room_at reserve cluster)) (steps_for (room_at reserve cluster))) ≡ true =
+        not-false (home (room_at reserve cluster) (after_all (current_of (room_at reserve cluster)) (steps_for (room_at reserve cluster)))) (sym blocks_is ∙ ap blocks e) in
+        let runs : EveryRun (room_at reserve cluster) (current_of (room_at reserve cluster)) (steps_of plan) = rw plan-steps (runs-home (room_at reserve cluster) sound-room h) in
+        record { written = w; runs = runs; accepted = accepted-is runs ∙ ap Verdict.Accepted (sym w.cost) }
 
-      halted-is : answer_of reserve cluster (length before) ≡ Blocked made → Halted reserve cluster plan made
-      halted-is e =
-          let h : home (room_at reserve cluster) (after_all (current_of (room_at reserve cluster)) (steps_for (room_at reserve cluster))) ≡ false =
-          not-true (home (room_at reserve cluster) (after_all (current_of (room_at reserve cluster)) (steps_for (room_at reserve cluster)))) (sym blocks_is ∙ ap blocks e) in
-          record {
-            written = written-made (sym made-is ∙ ap made_in e);
-            refused = refused-is (rw plan-steps (runs-away (room_at reserve cluster) sound-room h));
-          }
+    halted-is : answer_of reserve cluster (length before) ≡ Blocked made → Halted reserve cluster plan made
+    halted-is e =
+        let h : home (room_at reserve cluster) (after_all (current_of (room_at reserve cluster)) (steps_for (room_at reserve cluster))) ≡ false =
+        not-true (home (room_at reserve cluster) (after_all (current_of (room_at reserve cluster)) (steps_for (room_at reserve cluster)))) (sym blocks_is ∙ ap blocks e) in
+        record {
+          written = written-made (sym made-is ∙ ap made_in e);
+          refused = refused-is (rw plan-steps (runs-away (room_at reserve cluster) sound-room h));
+        }
 
-    -- blocked means stuck
-    blocked-is : (plan : List ℕ) → plan ≡ plan_bytes (steps_for (room_at reserve cluster)) →
-        ((made : Made) × (answer_of reserve cluster (length before) ≡ Blocked made)) ↔ Stuck (room_at reserve cluster) (after_all (current_of (room_at reserve cluster)) (steps_of plan))
-    unfolding outcome
-    blocked-is plan p =
-        rw (steps-back (room_at reserve cluster) sound-room plan p) (
-          (λ b. rest-stuck (room_at reserve cluster) (after_all (current_of (room_at reserve cluster)) (steps_for (room_at reserve cluster))) (rests (room_at reserve cluster) sound-room)
-              (not-true (home (room_at reserve cluster) (after_all (current_of (room_at reserve cluster)) (steps_for (room_at reserve cluster)))) (sym blocks_is ∙ ap blocks b.1))),
-          (λ s. (made_of (room_at reserve cluster) (steps_for (room_at reserve cluster)), taken-answer ∙ rw (stuck-away (room_at reserve cluster) (after_all (current_of (room_at reserve cluster)) (steps_for (room_at reserve cluster))) s))),
-        )
+  -- blocked means stuck
+  blocked-is : (plan : List ℕ) → plan ≡ plan_bytes (steps_for (room_at reserve cluster)) →
+      ((made : Made) × (answer_of reserve cluster (length before) ≡ Blocked made)) ↔ Stuck (room_at reserve cluster) (after_all (current_of (room_at reserve cluster)) (steps_of plan))
+  unfolding outcome
+  blocked-is plan p =
+      rw (steps-back (room_at reserve cluster) sound-room plan p) (
+        (λ b. rest-stuck (room_at reserve cluster) (after_all (current_of (room_at reserve cluster)) (steps_for (room_at reserve cluster))) (rests (room_at reserve cluster) sound-room)
+            (not-true (home (room_at reserve cluster) (after_all (current_of (room_at reserve cluster)) (steps_for (room_at reserve cluster)))) (sym blocks_is ∙ ap blocks b.1))),
+        (λ s. (made_of (room_at reserve cluster) (steps_for (room_at reserve cluster)), taken-answer ∙ rw (stuck-away (room_at reserve cluster) (after_all (current_of (room_at reserve cluster)) (steps_for (room_at reserve cluster))) s))),
+      )
 
 -- ---- the number returned
 
@@ -420,7 +419,7 @@ module _ (reserve : ℕ) (cluster before after : List ℕ) (a : Answer) (r : ℕ
   says-taken (inr q) = taken_of reserve cluster before (ap refuses (halt-is q))
 
   front : (t : Taken reserve cluster before) → refuses (answer_of reserve cluster (length before)) ≡ false → front_of after ≡ plan_bytes (steps_for (room_at reserve cluster))
-  front t n = front-for reserve cluster before t bytes (answer_of reserve cluster (length before)) after n g.buffer
+  front t n = front-for reserve cluster before t (answer_of reserve cluster (length before)) after n g.buffer
 
   not-refused : Taken reserve cluster before → refuses (answer_of reserve cluster (length before)) ≡ false
   not-refused t = go (taken-says t)
@@ -443,7 +442,7 @@ module _ (reserve : ℕ) (cluster before after : List ℕ) (a : Answer) (r : ℕ
     planned = λ q. let t = says-taken (inl q) in planned-is reserve cluster before t bytes (told_made r) (front_of after) (front t (ap refuses (plan-is q))) (plan-is q);
     halted = λ q. let t = says-taken (inr q) in halted-is reserve cluster before t bytes (told_made r) (front_of after) (front t (ap refuses (halt-is q))) (halt-is q);
     blocked = λ t.
-        let x = blocked-is reserve cluster before t bytes (front_of after) (front t (not-refused t)) in
+        let x = blocked-is reserve cluster before t (front_of after) (front t (not-refused t)) in
         (λ q. x.0 (told_made r, halt-is q), λ s. let m = x.1 s in blocked-says r (answer_of reserve cluster (length before)) m.0 told m.1);
     sound = sound-orders (room_at reserve cluster);
   }

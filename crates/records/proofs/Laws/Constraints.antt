@@ -7,7 +7,7 @@ use mathlib.Core.Path.{◌≡◌, refl, sym, ap, ◌∙◌}
 use native.Mathlib.Decide.{dec_lt, ℕ_discrete}
 use native.Mathlib.Omega.{arith}
 use lib.ListN.{length, get_or-eq_default, take, drop, length-drop}
-use Rattle.std.proofs.lemmas.List.{take_rest, drop-drop}
+use Rattle.std.proofs.lemmas.List.{take_rest, drop-drop, length-take-le}
 use lib.Dec.{ltb, leb, eqb}
 use borrow.Author.Tests.{eq-eqb, ne_eqb, le-leb, lt-leb, leb-true, eqb-true}
 use Rattle.std.specs.Prelude.{Option, Some, None, ◌≢◌}
@@ -384,6 +384,12 @@ module _ (p : List ℕ) (w : filled p ≡ true) where
       pub others-are : drop n (take (length p - 5) (drop 5 p)) ≡ drop (others_at p) p
       others-are = ap (drop n) (take_rest p 5) ∙ drop-drop n 5 p ∙ ap (λ (i : ℕ). drop (5 + i) p) e
 
+    pub vms-length : (l : List ℕ) → l ≡ vms_of (constraint_of p) → length l ≡ be16 p 3
+    unfolding vms_at
+    vms-length l e =
+        let o = others-within of-lists in
+        ap length (e ∙ vms-read) ∙ length-take-le (be16 p 3) (drop 5 p) (simp length-drop (omega arith))
+
   -- a ban or a fence ends with its node list
   module _ (kind : Kind) (e : kind_of (constraint_of p) ≡ kind) (k : (kind ≡ Ban) ⊎ (kind ≡ Fence)) (others : List ℕ) (o : others ≡ drop (others_at p) p) where
     two : (kind_at p ≡ 1) ⊎ (kind_at p ≡ 2)
@@ -441,6 +447,11 @@ module _ (p : List ℕ) (w : filled p ≡ true) where
         rw o (simp length-drop (omega arith))
 
     module _ (n : ℕ) (e : n ≡ byte_at others 0) where
+      pub groups-count : n ≡ length (groups_of (constraint_of p))
+      groups-count =
+          e ∙ ap (λ (l : List ℕ). byte_at l 0) o ∙ byte-behind p (others_at p) 0 (others_at p) (omega arith) ∙
+          sym (ap length groups-read ∙ groups-length p (others_at p + 1) (byte_at p (others_at p)))
+
       behind : take (length others - 1) (drop 1 others) ≡ drop (others_at p + 1) p
       behind = take_rest others 1 ∙ ap (drop 1) o ∙ drop-drop 1 (others_at p) p
 

@@ -2,11 +2,11 @@
 use Prim.Native.Nat.{ℕ, zero, suc, ◌+◌, ◌-◌, ◌*◌, ◌≤◌, ◌<◌}
 use mathlib.Core.Bool.{false}
 use mathlib.Core.List.{List, [], ◌∷◌}
-use mathlib.Core.Logic.{◌⊎◌, ⊎_elim, by_cases}
+use mathlib.Core.Logic.{◌⊎◌, ⊎_elim}
 use mathlib.Core.Path.{◌≡◌, refl, sym, ap, ◌∙◌}
-use native.Mathlib.Decide.{dec_lt}
 use native.Mathlib.Omega.{arith}
 use lib.ListN.{length, take, drop, length-drop}
+use lib.Seq.{length-take-le}
 use lib.Dec.{eqb}
 use borrow.Author.Tests.{eq-eqb, ne_eqb, eqb-true}
 use Rattle.std.proofs.lemmas.List.{get_or-drop, drop-drop, take_rest}
@@ -18,6 +18,10 @@ pub parts-on : (s : List ℕ) (at n : ℕ) → at ≤ parts_end s at n
 unfolding parts_end
 parts-on s at zero = omega arith
 parts-on s at (suc n) = let w = parts-on s (at + 2 + be16 s at) n in omega arith
+
+pub part_is : (s : List ℕ) (at size end : ℕ) → size ≡ be16 s at → end ≡ at + 2 + size → take (end - at) (drop at s) ≡ part_at s at
+unfolding part_at
+part_is s at size end e f = let w : end - at ≡ 2 + be16 s at = omega arith in rw w refl
 
 -- ---- the same from a place on: what is left of the record, without what stands before
 
@@ -89,23 +93,27 @@ module _ (rest : List ℕ) (left : ℕ) (z : 0 < left) where
   pub part_fits : parts_end rest 0 left ≡ length rest → 2 + be16 rest 0 ≤ length rest
   part_fits end = let e = end-next in omega arith
 
-  -- a length that was read, and what stands behind it
-  module _ (size : ℕ) (next : List ℕ) (e : size ≡ be16 rest 0) (f : next ≡ drop (2 + size) rest) where
-    pub parts_left : parts_end rest 0 left ≡ length rest → parts_end next 0 (left - 1) ≡ length next
-    parts_left end = rw (f, e) (let h = end-next in let l = length-drop (2 + be16 rest 0) rest in omega arith)
+  -- that part, and what stands behind it
+  module _ (end : parts_end rest 0 left ≡ length rest) (part next : List ℕ) (e : part ≡ part_at rest 0) where
+    pub part_long : length part ≡ 2 + be16 rest 0
+    unfolding part_at
+    part_long = ap length e ∙ length-take-le (2 + be16 rest 0) rest (part_fits end)
 
-    pub parts_is : (part : List ℕ) → part ≡ take (2 + size) rest → parts_from rest 0 left ≡ part ∷ parts_from next 0 (left - 1)
-    parts_is part g = rw (g, f, e) (parts_behind (left - 1) (omega arith))
+    module _ (f : next ≡ take (length rest - length part) (drop (length part) rest)) where
+      behind : next ≡ drop (2 + be16 rest 0) rest
+      behind = f ∙ take_rest rest (length part) ∙ ap (λ (n : ℕ). drop n rest) part_long
 
--- a part is left where two bytes are, and none where they are not
-module _ (rest : List ℕ) (left : ℕ) (end : parts_end rest 0 left ≡ length rest) where
-  pub part_left : (body : List ℕ) → length body + 2 ≡ length rest → 0 < left
-  unfolding parts_end
-  part_left body h = by_cases (dec_lt 0 left) (λ z. z) (λ z. let e : left ≡ 0 = omega arith in let w = rw e at end in absurd (omega arith))
+      pub parts_left : parts_end next 0 (left - 1) ≡ length next
+      parts_left = rw behind (let h = end-next in let l = length-drop (2 + be16 rest 0) rest in omega arith)
 
-  pub parts_none : length rest < 2 → parts_from rest 0 left ≡ []
-  unfolding parts_from
-  parts_none h = by_cases (dec_lt 0 left) (λ z. let f = part_fits rest left z end in absurd (omega arith)) (λ z. let e : left ≡ 0 = omega arith in rw e refl)
+      pub parts_is : parts_from rest 0 left ≡ part ∷ parts_from next 0 (left - 1)
+      unfolding part_at
+      parts_is = rw (behind, e) (parts_behind (left - 1) (omega arith))
+
+-- none is left of none
+pub parts_none : (s : List ℕ) (at n : ℕ) → n ≡ 0 → parts_from s at n ≡ []
+unfolding parts_from
+parts_none s at n z = rw z refl
 
 -- ---- the walk that finds what is left behind so many parts
 

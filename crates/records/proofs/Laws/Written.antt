@@ -6,7 +6,7 @@ use native.Mathlib.Nat.{add_assoc, zero-add}
 use native.Mathlib.Numerals.{add-one}
 use native.Mathlib.Omega.{arith}
 use lib.ListN.{length, get_or, set, take, drop, length-append, length-drop}
-use lib.Seq.{take-suc, take-suc-set, drop-set-lt, length-take-le, take_at, drop_at, drop-drop, take-take}
+use lib.Seq.{take-suc, take-suc-set, drop-set-lt, sets-eq, length-take-le, take_at, drop_at, drop-drop, take-take}
 use Rattle.records.specs.Bytes.{bytes16, bytes32}
 use Rattle.records.specs.Plan.{Move, source_bytes, move_bytes, moves_bytes, step_bytes, header_bytes, written}
 use Rattle.records.specs.declared.plan.Source.TheVariants.{Unnamed, Named}
@@ -91,6 +91,26 @@ module _ (l : List ℕ) (at : ℕ) (bs cs : List ℕ) (h : at + length bs + leng
 pub written-zero : (l bytes : List ℕ) → written l 0 bytes ≡ bytes ++ drop (length bytes) l
 unfolding written
 written-zero l bytes = ap (λ (n : ℕ). bytes ++ drop n l) (zero-add (length bytes))
+
+-- the header, written from its end
+pub header-written : (l m n : List ℕ) (version end steps : ℕ) → m ≡ written l 5 (bytes16 steps) → n ≡ written m 1 (bytes32 end) → 7 ≤ length l →
+    set n 0 version ≡ written l 0 (header_bytes version end steps)
+unfolding header_bytes bytes16 bytes32
+header-written l m n version end steps e f h =
+    first ∙ ap (λ (x : List ℕ). written x 0 (version ∷ [])) nm ∙ written-earlier l 0 (version ∷ []) (bytes32 end ++ bytes16 steps) h
+  where
+    ml : length m ≡ length l
+    ml = ap length e ∙ written-length l 5 (bytes16 steps) h
+
+    nl : length n ≡ length l
+    nl = ap length f ∙ written-length m 1 (bytes32 end) (rw ml (omega arith)) ∙ ml
+
+    nm : n ≡ written l 1 (bytes32 end ++ bytes16 steps)
+    nm = f ∙ ap (λ (x : List ℕ). written x 1 (bytes32 end)) e ∙ written-earlier l 1 (bytes32 end) (bytes16 steps) h
+
+    -- the store of the version
+    first : set n 0 version ≡ written n 0 (version ∷ [])
+    first = sets-eq (version ∷ []) n 0 (rw nl (omega arith)) ∙ append_assoc (take 0 n) (version ∷ []) (drop 1 n) ∙ sym (opened n 0 (version ∷ []))
 
 -- the header, and a step of one move, put part by part
 module _ (l m : List ℕ) (place : ℕ) where

@@ -1,11 +1,11 @@
 -- Laws on writing the record: a copy at the buffer's front, and the places put into it.
-use Prim.Native.Nat.{ℕ, ◌+◌, ◌<◌}
+use Prim.Native.Nat.{ℕ, ◌+◌, ◌≤◌, ◌<◌}
 use mathlib.Core.List.{List, ◌++◌}
 use mathlib.Core.Path.{◌≡◌, sym, ap, ◌∙◌}
 use native.Mathlib.Numerals.{add-one}
 use native.Mathlib.Omega.{arith}
-use lib.ListN.{length, get_or, set, drop, length-set}
-use lib.Seq.{set-append_left}
+use lib.ListN.{length, get_or, set, take, drop, length-set, take-append-drop}
+use lib.Seq.{take_all, set-append_left}
 use Rattle.std.specs.Prelude.{Ok}
 use Rattle.records.specs.Inner.{current_in}
 use Rattle.records.specs.Room.{Room, room_at, vm_count, current_at, updated_to, updated, cluster_check}
@@ -13,12 +13,26 @@ use Rattle.records.specs.Plan.{written}
 use Rattle.records.proofs.Laws.Cluster.{whole-rows}
 use Rattle.records.proofs.Laws.Reading.{vms_of_view, current_of_view}
 use Rattle.records.proofs.Laws.Updated.{updated-to-length}
-use Rattle.records.proofs.Laws.Written.{written-zero}
+use Rattle.records.proofs.Laws.Written.{written-zero, put_one}
+
+-- ---- a copy at the front: the first i bytes are copied, the others as they were
+
+pub copy_more : (bytes out old : List ℕ) (i x : ℕ) → x ≡ get_or bytes i 0 → take i out ≡ take i bytes → length out ≡ length old → length bytes ≤ length old → i < length bytes →
+    take (i + 1) (set out i x) ≡ take (i + 1) bytes
+copy_more bytes out old i x e inv l m h = put_one bytes out i x e inv (omega arith) h
+
+pub copy-end : (bytes out old : List ℕ) (i : ℕ) → take i out ≡ take i bytes → drop i out ≡ drop i old → i ≤ length bytes → length bytes ≤ i → out ≡ written old 0 bytes
+copy-end bytes out old i t d h k =
+    let e : i ≡ length bytes = omega arith in
+    sym (take-append-drop i out) ∙ ap (λ (l : List ℕ). l ++ drop i out) (t ∙ take_all i bytes k) ∙ ap (λ (l : List ℕ). bytes ++ l) (d ∙ ap (λ (j : ℕ). drop j old) e) ∙
+    sym (written-zero old bytes)
+
+-- ---- places put into it
 
 module _ (cluster places old : List ℕ) where
-  pub put-start : (copy out : List ℕ) → copy ≡ cluster → out ≡ copy ++ drop (length cluster) old → out ≡ written old 0 (updated_to cluster places 0)
+  pub put-start : (out : List ℕ) → out ≡ written old 0 cluster → out ≡ written old 0 (updated_to cluster places 0)
   unfolding updated_to
-  put-start copy out e f = f ∙ ap (λ (l : List ℕ). l ++ drop (length cluster) old) e ∙ sym (written-zero old cluster)
+  put-start out e = e
 
   -- where a place stands
   place-within : (v : ℕ) → cluster_check cluster ≡ Ok tt → v < vm_count cluster → current_at cluster v < length cluster

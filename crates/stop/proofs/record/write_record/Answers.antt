@@ -1,5 +1,4 @@
-use Rattle.std.proofs.Common.{◌∙◌, refl, ap, length, arith}
-use lib.ListN.{length-append}
+use Rattle.std.proofs.Common.{◌∙◌, refl, arith}
 use borrow.Author.Rules.{rules}
 use Rattle.stop.proofs.Laws.Writing.{put-start, put-more, put-end, view-count, view-place, view-within}
 use Rattle.stop.proofs.record.write_record.Goals as goal
@@ -11,8 +10,7 @@ pub put_place-requires-clause-within : goal.put_place-requires-clause-within
 put_place-requires-clause-within c =
     let n = view-count c.args.cluster.now c.whole-view.result c.whole-view.ensures.room in
     let k = view-within c.args.cluster.now c.whole-view.result c.whole-view.ensures.room c.loop-v.v c.requires.whole (omega arith) in
-    let l = simp length-append at c.loop-v.auto.out in
-    let m = ap length c.copy_from_slice.ensures.after in
+    let l = c.loop-v.auto.out in
     omega arith
 
 pub loop-v-preserved : goal.loop-v-preserved

@@ -5,7 +5,10 @@ use Rattle.planner.proofs.board.Board.meets.Goals as goal
 pub loop-w-preserved : goal.loop-w-preserved
 loop-w-preserved c = search (rules, meets-turn)
 
+pub loop-w-2-preserved : goal.loop-w-2-preserved
+loop-w-2-preserved c = search (rules, meets-turn)
+
 pub returns : goal.returns
 returns c =
-    meets-end c.args.self.now.cluster.now c.args.self.now.places.now c.args.dests.now c.args.v c.args.d c.loop-w.w c.loop-w.met _ c.loop-w.invariant
+    meets-end c.args.self.now.cluster.now c.args.self.now.places.now c.args.dests.now c.args.v c.args.d c.loop-w-2.w c.loop-w-2.met _ c.loop-w-2.invariant
     (search rules)
