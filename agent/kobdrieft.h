@@ -42,9 +42,9 @@
  *
  * Threads. There is no state: any number of threads may call at once, each with an `out` of its own.
  *
- * Stack. Measured on full clusters, x86-64: `kobdrieft_check` takes 30,967 bytes (512 steps), `kobdrieft_stop`
- * 32,167 (stopped in step 1, and in step 512), `kobdrieft_split` 31,063 (512 moves, and 1,024, which it refuses),
- * `kobdrieft_build` 106,519 (1 step, and 500 steps): it does not grow with the steps. Give a thread
+ * Stack. Measured on full clusters, x86-64: `kobdrieft_check` takes 30,951 bytes (512 steps), `kobdrieft_stop`
+ * 32,167 (stopped in step 1, and in step 512), `kobdrieft_split` 31,047 (512 moves, and 1,024, which it refuses),
+ * `kobdrieft_build` 106,679 (1 step, and 500 steps): it does not grow with the steps. Give a thread
  * KOB_CHECK_STACK, KOB_STOP_STACK, KOB_SPLIT_STACK or KOB_BUILD_STACK, and what it needs itself; the tests hold
  * these limits.
  *
